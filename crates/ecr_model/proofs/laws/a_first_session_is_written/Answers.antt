@@ -1,0 +1,5 @@
+use Rattle.ecr_model.proofs.ExampleLemmas.{a_first_session_is_written}
+use Rattle.ecr_model.proofs.laws.a_first_session_is_written.Goals as goal
+
+pub returns : goal.returns
+returns c = a_first_session_is_written

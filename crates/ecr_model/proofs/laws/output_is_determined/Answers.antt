@@ -1,0 +1,5 @@
+use Rattle.ecr_model.proofs.EndLemmas.{output_is_determined}
+use Rattle.ecr_model.proofs.laws.output_is_determined.Goals as goal
+
+pub returns : goal.returns
+returns c = output_is_determined

@@ -1,0 +1,5 @@
+use Rattle.ecr_model.proofs.StreamLemmas.{Reads-unique}
+use Rattle.ecr_model.proofs.laws.requests_are_determined.Goals as goal
+
+pub returns : goal.returns
+returns c = Reads-unique

@@ -1,0 +1,65 @@
+-- The first repository of a site, by example: the bytes of a request, and the bytes of its answer.
+use Rattle.std.specs.Prelude.{◌≡◌, ℕ, Bool, List, [], ◌∷◌, ◌++◌, None, codes}
+use Rattle.ecr_model.specs.declared.http.Request.{Request}
+use Rattle.ecr_model.specs.declared.names.SiteId.{SiteId}
+use Rattle.ecr_model.specs.declared.outcome.Cut.{Cut}
+use Rattle.ecr_model.specs.Texts.{crlf}
+use Rattle.ecr_model.specs.Stream.{Reads, ended}
+use Rattle.ecr_model.specs.Sessions.{written, fixed, AreCuts}
+use Rattle.ecr_model.specs.SessionLaws.{output_of}
+
+-- the bytes of a request that creates `team/app`
+abbrev pub first_bytes : List ℕ
+first_bytes =
+    codes "POST / HTTP/1.1" ++ crlf
+    ++ codes "Host: localhost" ++ crlf
+    ++ codes "Content-Length: 29" ++ crlf
+    ++ codes "X-Amz-Target: AmazonEC2ContainerRegistry_V20150921.CreateRepository" ++ crlf ++ crlf
+    ++ codes "{\"repositoryName\":\"team/app\"}"
+
+-- what they say
+abbrev pub first_request : Request
+first_request = record {
+  at = 0;
+  head = record {
+    method = codes "POST";
+    target = codes "/";
+    minor = 1;
+    fields =
+        record { name = codes "Host"; value = codes "localhost" }
+        ∷ record { name = codes "Content-Length"; value = codes "29" }
+        ∷ record { name = codes "X-Amz-Target"; value = codes "AmazonEC2ContainerRegistry_V20150921.CreateRepository" }
+        ∷ [];
+  };
+  body = codes "{\"repositoryName\":\"team/app\"}";
+}
+
+-- the site that it comes to
+abbrev pub example_site : SiteId
+example_site = record { region = codes "us-east-1"; account = codes "111122223333" }
+
+-- it adds one entry
+abbrev pub first_cut : Cut
+first_cut = record { entries = 1; failed = Bool.false; sealed = None }
+
+-- the answer to it, 1,700,000,000 seconds after 1970 began
+abbrev pub first_answer : List ℕ
+first_answer =
+    codes "HTTP/1.1 200 OK" ++ crlf
+    ++ codes "Content-Length: 271" ++ crlf
+    ++ codes "Content-Type: application/x-amz-json-1.1" ++ crlf ++ crlf
+    ++ codes "{\"repository\":{\"createdAt\":1700000000,\"imageTagMutability\":\"MUTABLE\",\"registryId\":\"111122223333\",\"repositoryArn\":\"arn:aws:ecr:us-east-1:111122223333:repository/team/app\",\"repositoryName\":\"team/app\",\"repositoryUri\":\"111122223333.dkr.ecr.us-east-1.amazonaws.com/team/app\"}}"
+
+-- a site without repositories answers it like that
+abbrev pub AFirstCreationIsAnswered : Type 0
+AFirstCreationIsAnswered = written example_site [] 1700000000 first_cut first_request ≡ first_answer
+
+-- the bytes are that request and no more
+abbrev pub AFirstRequestIsRead : Type 0
+AFirstRequestIsRead = Reads first_bytes Bool.true (first_request ∷ []) ended
+
+-- the cut is of the request, and what a session writes to it is that answer
+abbrev pub AFirstSessionIsWritten : Type 0
+AFirstSessionIsWritten =
+    AreCuts example_site [] (first_request ∷ []) (fixed 1700000000 (first_cut ∷ [])) (first_cut ∷ [])
+    × (output_of example_site 1700000000 (first_cut ∷ []) (first_request ∷ []) ended ≡ first_answer)

@@ -1,0 +1,33 @@
+-- The field lines of a head (RFC 9112, section 5; RFC 9110, section 5.1).
+use Rattle.std.specs.Prelude.{ℕ, Bool, not, ◌||◌, List, Option, option_map, map, count_by, find, bytes_eq}
+use Rattle.std.specs.List.{list_all}
+use Rattle.std.specs.Str.{str_eq_ignore_ascii_case}
+use Rattle.httparse.specs.Grammar.{RequestHead, field_value}
+use Rattle.httparse.specs.Grammar as grammar
+use Rattle.ecr_model.specs.declared.http.Field.{Field}
+use Rattle.ecr_model.specs.declared.http.Head.{Head}
+
+-- a field line: its name as it came, and its value without the white space around it
+abbrev pub field_of : grammar.Field → Field
+field_of line = record { name = line.name; value = field_value line }
+
+-- what is kept of a head
+abbrev pub head_of : RequestHead → Head
+head_of head =
+    record { method = head.method; target = head.target; minor = head.minor; fields = map field_of head.fields }
+
+-- names are compared without letter case
+abbrev pub has_name : List ℕ → Field → Bool
+has_name name field = str_eq_ignore_ascii_case field.name name
+
+-- how many fields have that name
+abbrev pub count_of : List ℕ → List Field → ℕ
+count_of name fields = count_by (has_name name) fields
+
+-- the value of the first field of that name
+abbrev pub first_value : List ℕ → List Field → Option (List ℕ)
+first_value name fields = option_map (λ f. f.value) (find (has_name name) fields)
+
+-- each field of that name has that value
+abbrev pub each_is : List ℕ → List ℕ → List Field → Bool
+each_is name value fields = list_all (λ f. not (has_name name f) || bytes_eq f.value value) fields

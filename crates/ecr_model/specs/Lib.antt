@@ -1,0 +1,15 @@
+pub mod Texts
+pub mod Fields
+pub mod Framing
+pub mod Stream
+pub mod Names
+pub mod Sites
+pub mod Calls
+pub mod Repositories
+pub mod Replies
+pub mod Bodies
+pub mod Sessions
+pub mod Commands
+pub mod StreamLaws
+pub mod SessionLaws
+pub mod Example

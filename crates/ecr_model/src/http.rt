@@ -1,0 +1,29 @@
+// What was read of a request (RFC 9112).
+use crate::{Listed, Text};
+
+/// A field line of a head: its name as it came, and its value without the spaces and tabs around it
+/// (RFC 9112, section 5).
+#[derive(Drop)]
+pub struct Field {
+    pub name: Text,
+    pub value: Text,
+}
+
+/// The head of a request (RFC 9112, sections 3 and 5).
+#[derive(Drop)]
+pub struct Head {
+    pub method: Text,
+    pub target: Text,
+    /// The minor version, `1` for HTTP/1.1.
+    pub minor: u8,
+    pub fields: Listed<Field>,
+}
+
+/// A whole request.
+#[derive(Drop)]
+pub struct Request {
+    /// The number of bytes of the input before its first byte.
+    pub at: u64,
+    pub head: Head,
+    pub body: Text,
+}

@@ -1,0 +1,42 @@
+// The laws of the definitions that contracts cite. The functions do nothing: their contracts are the laws.
+ghost use Rattle.ecr_model.specs.Example.{AFirstCreationIsAnswered, AFirstRequestIsRead, AFirstSessionIsWritten};
+ghost use Rattle.ecr_model.specs.SessionLaws.{OutputIsDetermined, TheInputDecidesTheEnd};
+ghost use Rattle.ecr_model.specs.StreamLaws.{BadStaysBad, RequestsAreDetermined};
+
+/// The bytes of a stream determine its requests, and how it goes on after them.
+pub fn requests_are_determined()
+    ensures { RequestsAreDetermined }
+{}
+
+/// Where the bytes of a stream are no request, nothing that follows changes that, or the requests before.
+pub fn bad_stays_bad()
+    ensures { BadStaysBad }
+{}
+
+/// The bytes that a session reads determine the requests, what is written to their cuts, and how the session ends,
+/// where the machine doesn't end it.
+pub fn output_is_determined()
+    ensures { OutputIsDetermined }
+{}
+
+/// A session that an input ends, be it whole, truncated or bad, ends as that whole input decides, and has answered
+/// all its requests.
+pub fn the_input_decides_the_end()
+    ensures { TheInputDecidesTheEnd }
+{}
+
+/// The definitions, at one request that creates a repository, come to the answer that is written out in
+/// `specs/Example.antt`.
+pub fn a_first_creation_is_answered()
+    ensures { AFirstCreationIsAnswered }
+{}
+
+/// The bytes of that request, written out there too, are read as it, and as nothing more.
+pub fn a_first_request_is_read()
+    ensures { AFirstRequestIsRead }
+{}
+
+/// What a session of those bytes writes, where it finds memory to answer, is that answer and nothing else.
+pub fn a_first_session_is_written()
+    ensures { AFirstSessionIsWritten }
+{}

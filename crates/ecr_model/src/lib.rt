@@ -1,0 +1,26 @@
+//! The registry's types, and the definitions that every contract is stated by.
+//!
+//! `specs/` has the definitions, a file a subject. This crate keeps no state and decides nothing.
+#![tactic(auto)]
+
+mod http;
+mod laws;
+mod listed;
+mod names;
+mod outcome;
+mod refusal;
+mod repository;
+mod text;
+
+pub use http::{Field, Head, Request};
+pub use laws::{
+    a_first_creation_is_answered, a_first_request_is_read, a_first_session_is_written,
+    bad_stays_bad, output_is_determined, requests_are_determined, the_input_decides_the_end,
+};
+pub use listed::Listed;
+pub use names::{Digest, MAX_MOMENT, Moment, Name, RepoKey, SiteId};
+pub use outcome::{Cut, End};
+pub use refusal::{Parameter, Refusal};
+pub use repository::{Asked, Mutability, Reply, Repository};
+pub use std::alloc::AllocError as Mem;
+pub use text::Text;

@@ -1,0 +1,43 @@
+// Lists.
+ghost use Rattle.std.specs.Prelude.{◌≡◌, ◌++◌, ◌∷◌, [], List, OnOk, OnErr};
+
+use crate::Mem;
+use std::alloc::Global;
+use std::marker::Model;
+
+/// A list that grows at its end. Contracts see the list of the items.
+#[derive(Drop)]
+pub struct Listed<T> {
+    list: Vec<T>,
+}
+
+impl<T> Model for Listed<T> {
+    ghost Value = { List T };
+
+    ghost view = { λ l. l.list.items };
+}
+
+impl<T> Listed<T> {
+    /// The empty list, which takes no memory.
+    pub fn new(alloc: Global) -> Listed<T>
+        ensures { result ≡ [] }
+    {
+        Listed {
+            list: Vec::new(alloc),
+        }
+    }
+
+    /// The list of these items, which aren't copied.
+    pub fn from_vec(list: Vec<T>) -> Listed<T>
+        ensures { result ≡ list.items }
+    {
+        Listed { list }
+    }
+
+    /// The items.
+    pub fn as_slice(&self) -> &[T]
+        ensures { result.now ≡ self.now }
+    {
+        self.list.as_slice()
+    }
+}
