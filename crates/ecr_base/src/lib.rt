@@ -1,0 +1,13 @@
+//! The grammars of what names something: repositories, sites, ARNs and URIs, read and written.
+//!
+//! Each reader accepts exactly the grammar that `ecr_model` states, and each text is written as it says.
+//! Whether there is such a repository or site is not asked here.
+#![tactic(auto)]
+
+mod names;
+mod sites;
+#[cfg(test)]
+mod tests;
+
+pub use names::{is_name, name_has_one_test, read_name};
+pub use sites::{read_site, site_has_one_reader, write_arn, write_uri};

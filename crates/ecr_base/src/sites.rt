@@ -1,0 +1,127 @@
+// Sites, and the names of repositories across sites.
+ghost use Rattle.std.specs.Prelude.{◌≡◌, ◌<◌, ◌↔◌, ℕ, List, IfOk, MatchOption, Some, length, string_bytes};
+ghost use Rattle.std.specs.Bool.{OnTrue};
+ghost use Rattle.std.specs.List.{list_all};
+ghost use Rattle.ecr_model.specs.declared.names.SiteId.{SiteId};
+ghost use Rattle.ecr_model.specs.Sites.{IsSite, ReadsSite, arn_of, is_account, is_digit, is_region, is_region_byte, is_site_word, site_of, site_word, uri_of, utf8_or_empty};
+
+use ecr_model::{Mem, RepoKey, SiteId, Text};
+use std::alloc::Global;
+
+/// The bytes of an account and of the `/` before it.
+const TAIL_LENGTH: usize = 13;
+
+/// The site as which the word `REGION/ACCOUNT` reads, or `None` where it is no such word.
+pub fn read_site(alloc: Global, word: &[u8]) -> Result<Option<SiteId>, Mem>
+    ensures exact { IfOk result
+        (λ o. MatchOption o ((site : SiteId) → ¬ (ReadsSite word.now site)) (λ site. ReadsSite word.now site)) }
+    ensures computed { IfOk result (λ o. o ≡ site_of word.now) }
+{
+    if !is_site_word(word) {
+        return Ok(None);
+    }
+    let slash = word.len() - TAIL_LENGTH;
+    let region = Text::copy_of(alloc, &word[..slash])?;
+    let account = Text::copy_of(alloc, &word[slash + 1..])?;
+    Ok(Some(SiteId { region, account }))
+}
+
+/// The reader that computes answers by the grammar, and reads the word of a site back.
+pub fn site_has_one_reader()
+    ensures exact { (word : List ℕ) (site : SiteId) → (site_of word ≡ Some site) ↔ ReadsSite word site }
+    ensures reads_back { (site : SiteId) → IsSite site → site_of (site_word site) ≡ Some site }
+{}
+
+/// `arn:aws:ecr:REGION:ACCOUNT:repository/NAME`, or the empty text where that isn't UTF-8.
+#[tactic(auto, unfolding(ecr_model::specs::Sites::arn_of))]
+pub fn write_arn(alloc: Global, key: &RepoKey) -> Result<String, Mem>
+    ensures { IfOk result (λ text. string_bytes text ≡ arn_of key.now) }
+{
+    let mut arn = Vec::new(alloc);
+    arn.extend_from_slice(b"arn:aws:ecr:")?;
+    arn.extend_from_slice(key.site.region.as_bytes())?;
+    arn.extend_from_slice(b":")?;
+    arn.extend_from_slice(key.site.account.as_bytes())?;
+    arn.extend_from_slice(b":repository/")?;
+    arn.extend_from_slice(key.name.text.as_bytes())?;
+    utf8_or_empty(alloc, arn.as_slice())
+}
+
+/// `ACCOUNT.dkr.ecr.REGION.amazonaws.com/NAME`, or the empty text where that isn't UTF-8.
+#[tactic(auto, unfolding(ecr_model::specs::Sites::uri_of))]
+pub fn write_uri(alloc: Global, key: &RepoKey) -> Result<String, Mem>
+    ensures { IfOk result (λ text. string_bytes text ≡ uri_of key.now) }
+{
+    let mut uri = Vec::new(alloc);
+    uri.extend_from_slice(key.site.account.as_bytes())?;
+    uri.extend_from_slice(b".dkr.ecr.")?;
+    uri.extend_from_slice(key.site.region.as_bytes())?;
+    uri.extend_from_slice(b".amazonaws.com/")?;
+    uri.extend_from_slice(key.name.text.as_bytes())?;
+    utf8_or_empty(alloc, uri.as_slice())
+}
+
+/// Whether the word is a region, a `/` and an account.
+#[tactic(auto, unfolding(ecr_model::specs::Sites::is_site_word))]
+fn is_site_word(word: &[u8]) -> bool
+    ensures computed { result ≡ is_site_word word.now }
+    ensures long { OnTrue result (13 < length word.now) }
+{
+    if word.len() <= TAIL_LENGTH {
+        return false;
+    }
+    let slash = word.len() - TAIL_LENGTH;
+    is_region(&word[..slash]) && word[slash] == b'/' && is_account(&word[slash + 1..])
+}
+
+/// Whether the text is a region: 1 to 32 of `[a-z0-9-]`.
+fn is_region(text: &[u8]) -> bool
+    ensures { result ≡ is_region text.now }
+{
+    text.len() >= 1 && text.len() <= 32 && are_region_bytes(text)
+}
+
+/// Whether the text is an account: 12 digits.
+fn is_account(text: &[u8]) -> bool
+    ensures { result ≡ is_account text.now }
+{
+    text.len() == 12 && are_digits(text)
+}
+
+/// Whether each byte is one of `[a-z0-9-]`.
+fn are_region_bytes(text: &[u8]) -> bool
+    ensures { result ≡ list_all is_region_byte text.now }
+{
+    text.iter().all(|byte| is_region_byte(*byte))
+}
+
+/// Whether each byte is one of `[0-9]`.
+fn are_digits(text: &[u8]) -> bool
+    ensures { result ≡ list_all is_digit text.now }
+{
+    text.iter().all(|byte| is_digit(*byte))
+}
+
+/// Whether the byte is one of `[a-z0-9-]`.
+fn is_region_byte(byte: u8) -> bool
+    ensures { result ≡ is_region_byte byte }
+{
+    matches!(byte, b'a'..=b'z' | b'0'..=b'9' | b'-')
+}
+
+/// Whether the byte is one of `[0-9]`.
+fn is_digit(byte: u8) -> bool
+    ensures { result ≡ is_digit byte }
+{
+    matches!(byte, b'0'..=b'9')
+}
+
+/// The text of these bytes, or the empty one where they aren't UTF-8.
+fn utf8_or_empty(alloc: Global, bytes: &[u8]) -> Result<String, Mem>
+    ensures { IfOk result (λ text. string_bytes text ≡ utf8_or_empty bytes.now) }
+{
+    match str::from_utf8(bytes) {
+        Ok(text) => String::from_str(alloc, text),
+        Err(_) => Ok(String::new(alloc)),
+    }
+}

@@ -1,0 +1,53 @@
+use crate::{is_name, read_name, read_site, write_arn, write_uri};
+use ecr_model::RepoKey;
+use std::test::Fail;
+
+#[test]
+fn a_name_is_words_with_joints(rt: HostRuntime) -> Result<(), Fail> {
+    for text in ["ab", "team/app", "a__b/c--d"].iter() {
+        assert!(rt; is_name(text.as_bytes()), "{text}");
+    }
+    for text in [
+        "a", "a//b", "a..b", "a___b", "a_.b", "-ab", "ab-", "ab/", "A1",
+    ]
+    .iter()
+    {
+        assert!(rt; !is_name(text.as_bytes()), "{text}");
+    }
+    assert!(rt; is_name(&[b'a'; 256]));
+    assert!(rt; !is_name(&[b'a'; 257]));
+    Ok(())
+}
+
+#[test]
+fn a_site_is_a_region_and_an_account(rt: HostRuntime) -> Result<(), Fail> {
+    let longest = "abcdefghijklmnopqrstuvwxyz-01234/111122223333";
+    for word in ["us-east-1/111122223333", longest].iter() {
+        assert!(rt; read_site(rt.alloc(), word.as_bytes())?.is_some(), "{word}");
+    }
+    for word in [
+        "us-east-1/11112222333",
+        "us-east-1/1111222233334",
+        "/111122223333",
+        "abcdefghijklmnopqrstuvwxyz-012345/111122223333",
+        "US-EAST-1/111122223333",
+    ]
+    .iter()
+    {
+        assert!(rt; read_site(rt.alloc(), word.as_bytes())?.is_none(), "{word}");
+    }
+    let site = read_site(rt.alloc(), b"us-east-1/111122223333")?.ok_or("no site")?;
+    let name = read_name(rt.alloc(), b"team/app")?.ok_or("no name")?;
+    let key = RepoKey { site, name };
+    let arn = write_arn(rt.alloc(), &key)?;
+    assert_eq!(rt;
+        arn.as_str(),
+        "arn:aws:ecr:us-east-1:111122223333:repository/team/app"
+    );
+    let uri = write_uri(rt.alloc(), &key)?;
+    assert_eq!(rt;
+        uri.as_str(),
+        "111122223333.dkr.ecr.us-east-1.amazonaws.com/team/app"
+    );
+    Ok(())
+}
