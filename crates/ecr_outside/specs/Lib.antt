@@ -1,0 +1,5 @@
+pub mod Source
+pub mod Sink
+pub mod Faults
+pub mod Told
+pub mod Plan

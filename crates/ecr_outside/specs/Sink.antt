@@ -1,0 +1,26 @@
+-- What a write adds to a sink, by what it answers. Sizes are in bytes, and `old` and `new` are the
+-- bytes that it holds before and after it, where the sink tells them.
+use Rattle.std.specs.Prelude.{ℕ, ◌<◌, ◌≤◌, List, length, take, Option, ⊤}
+use Rattle.std.specs.Io.KnownBytes.{Appends, Keeps}
+use Rattle.ecr_outside.specs.declared.sink.Took.{Took}
+use Rattle.ecr_outside.specs.declared.sink.Took.TheVariants.{Bytes, Failed}
+
+-- a write takes at least one byte, and no more than the piece has
+abbrev pub HasCount : Took → List ℕ → Type 0
+HasCount (Bytes n) piece = (1 ≤ n) × (n ≤ length piece)
+HasCount Failed piece = ⊤
+
+-- the bytes taken are the piece's first, and stand at the end; a failure adds none
+abbrev pub Takes : Option (List ℕ) → Option (List ℕ) → List ℕ → Took → Type 0
+Takes old new piece (Bytes n) = Appends old new (take n piece)
+Takes old new piece Failed = Keeps old new
+
+-- a write that failed has its fault counted
+abbrev pub HasCause : ℕ → ℕ → Took → Type 0
+HasCause old new (Bytes n) = ⊤
+HasCause old new Failed = old < new
+
+-- a sink in memory: the bytes that it holds, and how often it failed
+pub record Store : Type 0 where
+  pub held : List ℕ
+  pub faults : ℕ
