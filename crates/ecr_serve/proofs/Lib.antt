@@ -1,0 +1,10 @@
+pub mod HeadLemmas
+pub mod LookLemmas
+pub mod DigitsLemmas
+pub mod CallLemmas
+pub mod ReadingLemmas
+pub mod SendLemmas
+pub mod AnswerLemmas
+pub mod ServingLemmas
+pub mod WordsLemmas
+pub mod CommandLemmas

@@ -1,0 +1,16 @@
+use Rattle.std.proofs.Common.{sym, ◌∙◌, arith}
+use Rattle.ecr_model.specs.Framing.{max_head}
+use Rattle.ecr_serve.proofs.head.find_end.Goals as goal
+
+pub returns-then-ends_empty : goal.returns-then-ends_empty
+unfolding max_head
+returns-then-ends_empty c = record {
+  within = omega arith;
+  not_long = omega arith;
+  ends = sym c.ends_empty.ensures ∙ c.if-ends_empty.true;
+  first = c.loop-n.invariant;
+}
+
+pub returns : goal.returns
+unfolding max_head
+returns c = λ k h. c.loop-n.invariant k (omega arith)

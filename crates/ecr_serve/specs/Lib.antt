@@ -1,0 +1,6 @@
+pub mod Spans
+pub mod Looks
+pub mod Reading
+pub mod Rooms
+pub mod Serving
+pub mod Words
