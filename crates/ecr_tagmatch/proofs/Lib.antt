@@ -1,0 +1,2 @@
+pub mod MatchesLemmas
+pub mod WildLemmas
