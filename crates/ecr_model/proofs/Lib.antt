@@ -1,4 +1,5 @@
 pub mod NamesLemmas
+pub mod DigestsLemmas
 pub mod SitesLemmas
 pub mod FramingLemmas
 pub mod StreamLemmas

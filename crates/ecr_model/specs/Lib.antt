@@ -3,8 +3,10 @@ pub mod Fields
 pub mod Framing
 pub mod Stream
 pub mod Names
+pub mod Digests
 pub mod Sites
 pub mod Calls
+pub mod Manifests
 pub mod Repositories
 pub mod Replies
 pub mod Bodies
@@ -13,3 +15,4 @@ pub mod Commands
 pub mod StreamLaws
 pub mod SessionLaws
 pub mod Example
+pub mod Policies

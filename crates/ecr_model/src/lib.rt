@@ -4,8 +4,11 @@
 #![tactic(auto)]
 
 mod http;
+mod journal;
 mod laws;
+mod lifecycle;
 mod listed;
+mod manifest;
 mod names;
 mod outcome;
 mod refusal;
@@ -13,11 +16,14 @@ mod repository;
 mod text;
 
 pub use http::{Field, Head, Request};
+pub use journal::{CellJournal, CellKey, Entry, Frame, Limits, Line, Place};
 pub use laws::{
     a_first_creation_is_answered, a_first_request_is_read, a_first_session_is_written,
     bad_stays_bad, output_is_determined, requests_are_determined, the_input_decides_the_end,
 };
+pub use lifecycle::{Choose, Count, Policy, PolicyFault, Rule};
 pub use listed::Listed;
+pub use manifest::{Descriptor, Facts, ManifestFault};
 pub use names::{Digest, MAX_MOMENT, Moment, Name, RepoKey, SiteId};
 pub use outcome::{Cut, End};
 pub use refusal::{Parameter, Refusal};

@@ -34,6 +34,13 @@ impl<T> Listed<T> {
         Listed { list }
     }
 
+    /// The items as a vector, which aren't copied.
+    pub fn into_vec(self) -> Vec<T>
+        ensures { result.items ≡ self }
+    {
+        self.list
+    }
+
     /// The items.
     pub fn as_slice(&self) -> &[T]
         ensures { result.now ≡ self.now }
