@@ -1,4 +1,4 @@
-use crate::{is_name, read_name, read_site, write_arn, write_uri};
+use crate::{is_name, read_digest, read_name, read_site, write_arn, write_digest, write_uri};
 use ecr_model::RepoKey;
 use std::test::Fail;
 
@@ -49,5 +49,27 @@ fn a_site_is_a_region_and_an_account(rt: HostRuntime) -> Result<(), Fail> {
         uri.as_str(),
         "111122223333.dkr.ecr.us-east-1.amazonaws.com/team/app"
     );
+    Ok(())
+}
+
+#[test]
+fn a_digest_is_read_as_it_is_written(rt: HostRuntime) -> Result<(), Fail> {
+    let abc = "sha256:ba7816bf8f01cfea414140de5dae2223b00361a396177a9cb410ff61f20015ad";
+    let digest = read_digest(abc.as_bytes()).ok_or("no digest")?;
+    assert_eq!(rt; digest.bytes[0], 0xba);
+    assert_eq!(rt; digest.bytes[31], 0xad);
+    assert_eq!(rt; write_digest(rt.alloc(), &digest)?.as_str(), abc);
+    for text in [
+        "",
+        "sha256:ba7816",
+        "sha512:ba7816bf8f01cfea414140de5dae2223b00361a396177a9cb410ff61f20015ad",
+        "sha256:BA7816bf8f01cfea414140de5dae2223b00361a396177a9cb410ff61f20015ad",
+        "sha256:ga7816bf8f01cfea414140de5dae2223b00361a396177a9cb410ff61f20015ad",
+        "sha256:ba7816bf8f01cfea414140de5dae2223b00361a396177a9cb410ff61f20015ad0",
+    ]
+    .iter()
+    {
+        assert!(rt; read_digest(text.as_bytes()).is_none(), "{text}");
+    }
     Ok(())
 }
