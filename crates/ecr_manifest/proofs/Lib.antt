@@ -1,0 +1,4 @@
+pub mod ReadLemmas
+pub mod GivenLemmas
+pub mod ManifestLemmas
+pub mod OnceLemmas
