@@ -1,0 +1,137 @@
+// A policy's text, read whole.
+ghost use Rattle.std.specs.Prelude.{◌≡◌, ◌≤◌, ℕ, Ok, Err, IfOk, Some, length, option_map};
+ghost use Rattle.serde_json.specs.Read.{read};
+ghost use Rattle.serde_json.specs.View.{view, items_view};
+ghost use Rattle.ecr_model.specs.Policies.{policy, has_length, rules_in, read_rules, listed, together, of_text};
+ghost use Rattle.ecr_policy.specs.declared.refusal.PolicyRefusal.TheVariants.{Bad};
+
+use crate::PolicyRefusal;
+use crate::clashes::first_clash;
+use crate::json::{array_at, characters, has_only};
+use crate::order::by_number;
+use crate::rules::rules_of;
+use ecr_model::{Listed, Mem, Policy, PolicyFault, Rule, Text};
+use serde_json::Value;
+use std::alloc::Global;
+
+/// The policy of the text, or the first cause that it isn't one.
+///
+/// Rule 0 stands for the text.
+pub fn read(alloc: Global, text: &str) -> Result<Policy, PolicyRefusal>
+    ensures taken { IfOk result (λ p. policy text.now ≡ Ok p) }
+    ensures refused { (rule cause : ℕ) → result ≡ Err (Bad rule cause) → policy text.now ≡ Err (record { rule = rule; cause = cause }) }
+{
+    match read_policy(alloc, text) {
+        Ok(Ok(policy)) => Ok(policy),
+        Ok(Err(fault)) => Err(PolicyRefusal::Bad {
+            rule: fault.rule,
+            cause: fault.cause,
+        }),
+        Err(error) => Err(PolicyRefusal::Mem(error)),
+    }
+}
+
+/// The policy of the text, or the first rule that is refused and why.
+#[tactic(auto, unfolding(ecr_model::specs::Policies::policy))]
+fn read_policy(alloc: Global, text: &str) -> Result<Result<Policy, PolicyFault>, Mem>
+    ensures { IfOk result (λ r. r ≡ policy text.now) }
+{
+    if !has_length(text) {
+        return Ok(Err(of_text(1)));
+    }
+    let document = read_json(alloc, text)?;
+    read_rules(alloc, text, rules_in(&document))
+}
+
+/// Whether the text has 100 to 30,720 characters.
+fn has_length(text: &str) -> bool
+    ensures { result ≡ has_length text.now }
+{
+    characters(text) >= 100 && characters(text) <= 30720
+}
+
+/// The JSON reading of the text, where it has one.
+fn read_json(alloc: Global, text: &str) -> Result<Option<Value>, Mem>
+    ensures { IfOk result (λ o. option_map view o ≡ read text.now) }
+{
+    match Value::from_str(alloc, text) {
+        Ok(value) => Ok(Some(value)),
+        Err(error) if error.is_memory() => Err(Mem),
+        Err(_) => Ok(None),
+    }
+}
+
+/// The list of rules, where the document is an object with that member alone.
+fn rules_in(document: &Option<Value>) -> Option<&Vec<Value>>
+    ensures { option_map (λ v. items_view v.now.items) result ≡ rules_in (option_map view document.now) }
+{
+    match document {
+        Some(value) => rules_at(value),
+        None => None,
+    }
+}
+
+/// The list of rules, where the value is an object with that member alone.
+fn rules_at(value: &Value) -> Option<&Vec<Value>>
+    ensures { option_map (λ v. items_view v.now.items) result ≡ rules_in (Some (view value.now)) }
+{
+    if has_only(&["rules"], value) {
+        array_at("rules", value)
+    } else {
+        None
+    }
+}
+
+/// The policy of those rules, or the first cause from 2 on.
+fn read_rules(
+    alloc: Global,
+    text: &str,
+    rules: Option<&Vec<Value>>,
+) -> Result<Result<Policy, PolicyFault>, Mem>
+    ensures { IfOk result (λ r. r ≡ read_rules text.now (option_map (λ v. items_view v.now.items) rules.entry)) }
+{
+    match rules {
+        Some(rules) => listed(alloc, text, rules.as_slice()),
+        None => Ok(Err(of_text(2))),
+    }
+}
+
+/// The policy of the items, or the first cause from 3 on.
+#[tactic(auto, using(crate::proofs::JsonLemmas::items))]
+fn listed(alloc: Global, text: &str, items: &[Value]) -> Result<Result<Policy, PolicyFault>, Mem>
+    ensures { IfOk result (λ r. r ≡ listed text.now (items_view items.now)) }
+{
+    if items.is_empty() || items.len() > 50 {
+        return Ok(Err(of_text(3)));
+    }
+    let rules = rules_of(alloc, items)?;
+    together(alloc, text, rules)
+}
+
+/// The policy of the rules, or the first cause from 14 on.
+fn together(
+    alloc: Global,
+    text: &str,
+    rules: Result<Listed<Rule>, PolicyFault>,
+) -> Result<Result<Policy, PolicyFault>, Mem>
+    requires { IfOk rules (λ rs. length rs ≤ 50) }
+    ensures { IfOk result (λ r. r ≡ together text.now rules) }
+{
+    let rules = match rules {
+        Ok(rules) => rules,
+        Err(fault) => return Ok(Err(fault)),
+    };
+    if let Some(fault) = first_clash(rules.as_slice()) {
+        return Ok(Err(fault));
+    }
+    let rules = by_number(alloc, rules)?;
+    let text = Text::copy_of(alloc, text.as_bytes())?;
+    Ok(Ok(Policy { text, rules }))
+}
+
+/// A cause of the text's.
+fn of_text(cause: u8) -> PolicyFault
+    ensures { result ≡ of_text cause }
+{
+    PolicyFault { rule: 0, cause }
+}

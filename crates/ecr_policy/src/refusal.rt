@@ -1,0 +1,14 @@
+// Why a text gives no policy.
+use ecr_model::Mem;
+use thiserror::Error;
+
+/// Why a text gives no policy.
+#[derive(Debug, Drop, Error)]
+pub enum PolicyRefusal {
+    /// Rule `rule` of the list, counted from 1, or the text (0) has the cause; no earlier cause holds.
+    #[error("rule {rule} of the policy is refused for cause {cause}")]
+    Bad { rule: u32, cause: u8 },
+    /// There was no memory.
+    #[error(transparent)]
+    Mem(#[from(alloc)] Mem),
+}
