@@ -1,0 +1,172 @@
+-- Laws of journals: rising tickets, and a journal that others make longer.
+use Rattle.std.proofs.Common.{◌≡◌, ◌≢◌, ℕ, suc, ◌+◌, ◌<◌, ◌≤◌, true, false, eqb, eq-eqb, ne_eqb, ⊎_elim, List, [], ◌∷◌, ◌++◌, length, refl, sym, ap, ◌∙◌, subst, arith, append_assoc, length-append}
+use Rattle.ecr_model.specs.declared.journal.Line.{Line}
+use mathlib.Core.Bool.{not}
+use Rattle.ecr_turn.specs.Rule.{Each, Rises, Grows, Follows}
+use Rattle.ecr_turn.specs.Passes.{MayFollow}
+use Rattle.ecr_turn.specs.Steps.{longer_of}
+use Rattle.std.proofs.Common.{max}
+use Rattle.ecr_turn.proofs.Views.{off}
+
+pub max_least : (a b c : ℕ) → a ≤ c → b ≤ c → max a b ≤ c
+max_least a b c p q = omega arith
+
+pub Each-snoc : (P : Line → Type 0) (ls : List Line) (l : Line) → Each P ls → P l → Each P (ls ++ l ∷ [])
+Each-snoc P [] l all p = (p, tt)
+Each-snoc P (x ∷ ls) l all p = (all.0, Each-snoc P ls l all.1 p)
+
+pub Each-weaker : (P Q : Line → Type 0) → ((l : Line) → P l → Q l) → (ls : List Line) → Each P ls → Each Q ls
+Each-weaker P Q f [] all = tt
+Each-weaker P Q f (x ∷ ls) all = (f x all.0, Each-weaker P Q f ls all.1)
+
+pub Rises-higher : (low : ℕ) (ls : List Line) (high more : ℕ) → high ≤ more → Rises low ls high → Rises low ls more
+Rises-higher low [] high more le r = omega arith
+Rises-higher low (x ∷ ls) high more le r = (r.0, Rises-higher (suc x.ticket) ls high more le r.1)
+
+pub Rises-snoc : (low : ℕ) (ls : List Line) (l : Line) (high : ℕ) → l.ticket ≡ high → Rises low ls high → Rises low (ls ++ l ∷ []) (suc high)
+Rises-snoc low [] l high e r = (omega arith, omega arith)
+Rises-snoc low (x ∷ ls) l high e r = (r.0, Rises-snoc (suc x.ticket) ls l high e r.1)
+
+pub Rises-length : (low : ℕ) (ls : List Line) (high : ℕ) → Rises low ls high → low + length ls ≤ high
+Rises-length low [] high r = omega arith
+Rises-length low (x ∷ ls) high r = let h = Rises-length (suc x.ticket) ls high r.1 in let h' = r.0 in omega arith
+
+pub Grows-none : (caller past : ℕ) (log : List Line) → Grows caller past log log
+Grows-none caller past log = record { news = []; longer = sym (append_nil log); others = tt; later = tt }
+  where
+    append_nil : (xs : List Line) → xs ++ [] ≡ xs
+    append_nil [] = refl
+    append_nil (x ∷ xs) = ap (λ (ys : List Line). x ∷ ys) (append_nil xs)
+
+pub Grows-snoc : (caller past : ℕ) (before after : List Line) (l : Line) → Grows caller past before after → l.caller ≢ caller → past ≤ l.ticket → Grows caller past before (after ++ l ∷ [])
+Grows-snoc caller past before after l g other late = record {
+  news = g.news ++ l ∷ [];
+  longer = ap (λ (ys : List Line). ys ++ l ∷ []) g.longer ∙ append_assoc before g.news (l ∷ []);
+  others = Each-snoc (λ l. l.caller ≢ caller) g.news l g.others other;
+  later = Each-snoc (λ l. past ≤ l.ticket) g.news l g.later late;
+}
+
+abbrev Longer : ℕ → ℕ → List Line → List Line → Type 0
+Longer ticket caller before after = (l : Line) × (after ≡ before ++ l ∷ []) × (l.ticket ≡ ticket) × (l.caller ≡ caller)
+
+-- of a journal that may follow, the number of its entries tells whether it is longer
+pub MayFollow-same : (ticket caller entries count : ℕ) (before after : List Line) → MayFollow ticket caller before after → entries ≡ length after → count ≡ length before → not (eqb entries count) ≡ false → after ≡ before
+MayFollow-same ticket caller entries count before after may is was same = ⊎_elim (λ (e : after ≡ before). e)
+    (λ (l : Longer ticket caller before after). absurd (off (sym same ∙ ap not (ne_eqb entries count (differ (is ∙ (ap length l.1 ∙ length-append before (l.0 ∷ []))) was))))) may
+  where
+    differ : entries ≡ length before + 1 → count ≡ length before → entries ≢ count
+    differ a b e = omega arith
+
+pub MayFollow-longer : (ticket caller entries count : ℕ) (before after : List Line) → MayFollow ticket caller before after → entries ≡ length after → count ≡ length before → not (eqb entries count) ≡ true → Longer ticket caller before after
+MayFollow-longer ticket caller entries count before after may is was grown = ⊎_elim (λ (e : after ≡ before). absurd (off (sym (ap not (eq-eqb entries count (is ∙ (ap length e ∙ sym was)))) ∙ grown)))
+    (λ (l : Longer ticket caller before after). l) may
+
+pub Each-right : (P : Line → Type 0) (xs ys : List Line) → Each P (xs ++ ys) → Each P ys
+Each-right P [] ys all = all
+Each-right P (x ∷ xs) ys all = Each-right P xs ys all.1
+
+pub Each-left : (P : Line → Type 0) (us vs : List Line) → Each P (us ++ vs) → Each P us
+Each-left P [] vs all = tt
+Each-left P (u ∷ us) vs all = (all.0, Each-left P us vs all.1)
+
+pub Each-both : (P Q : Line → Type 0) (ls : List Line) → Each P ls → Each Q ls → Each (λ l. P l × Q l) ls
+Each-both P Q [] a b = tt
+Each-both P Q (x ∷ ls) a b = ((a.0, b.0), Each-both P Q ls a.1 b.1)
+
+at_least_none : (ls : List Line) → Each (λ l. 0 ≤ l.ticket) ls
+at_least_none [] = tt
+at_least_none (x ∷ ls) = (omega arith, at_least_none ls)
+
+pub Follows-first : (log : List Line) → Follows 0 [] log
+Follows-first log = record { news = log; longer = refl; later = at_least_none log }
+
+pub Follows-snoc : (past : ℕ) (before after : List Line) (l : Line) → Follows past before after → past ≤ l.ticket → Follows past before (after ++ l ∷ [])
+Follows-snoc past before after l g late = record {
+  news = g.news ++ l ∷ [];
+  longer = ap (λ (ys : List Line). ys ++ l ∷ []) g.longer ∙ append_assoc before g.news (l ∷ []);
+  later = Each-snoc (λ l. past ≤ l.ticket) g.news l g.later late;
+}
+
+pub Grows-follows : (caller past : ℕ) (before after : List Line) → Grows caller past before after → Follows past before after
+Grows-follows caller past before after g = record { news = g.news; longer = g.longer; later = g.later }
+
+-- a caller of whom no entry stands in the journal
+pub Grows-newcomer : (caller past n : ℕ) (before after : List Line) → Grows caller past before after → Each (λ l. l.caller < n) after → Grows n past before after
+Grows-newcomer caller past n before after g all = record {
+  news = g.news;
+  longer = g.longer;
+  others = Each-weaker (λ l. l.caller < n) (λ l. l.caller ≢ n) (λ l lt e. omega arith) g.news (Each-right (λ l. l.caller < n) before g.news (subst (Each (λ l. l.caller < n)) g.longer all));
+  later = g.later;
+}
+
+tail_of : List Line → List Line
+tail_of [] = []
+tail_of (x ∷ xs) = xs
+
+-- two beginnings of one journal: the longer one is a beginning too
+pub longer_of-splits : (P Q : Line → Type 0) (xs as_ ys bs : List Line) → xs ++ as_ ≡ ys ++ bs → Each P as_ → Each Q bs
+    → (news : List Line) × (xs ++ as_ ≡ longer_of xs ys ++ news) × Each P news × Each Q news
+longer_of-splits P Q [] as_ ys bs e p q = (bs, e, Each-right P ys bs (subst (Each P) e p), q)
+longer_of-splits P Q (x ∷ xs) as_ [] bs e p q = (as_, refl, p, Each-right Q (x ∷ xs) as_ (subst (Each Q) (sym e) q))
+longer_of-splits P Q (x ∷ xs) as_ (y ∷ ys) bs e p q = let r = longer_of-splits P Q xs as_ ys bs (tails x y (xs ++ as_) (ys ++ bs) e) p q in (r.0, ap (λ (z : List Line). x ∷ z) r.1, r.2, r.3)
+  where
+    tails : (a b : Line) (us vs : List Line) → (a ∷ us) ≡ (b ∷ vs) → us ≡ vs
+    tails a b us vs e = cc
+
+-- what the longer of two has beyond each
+pub longer_of-left : (xs as_ ys bs : List Line) → xs ++ as_ ≡ ys ++ bs → (P : Line → Type 0) → Each P as_ → (news : List Line) × (longer_of xs ys ≡ xs ++ news) × Each P news
+longer_of-left [] as_ ys bs e P p = (ys, refl, Each-left P ys bs (subst (Each P) e p))
+longer_of-left (x ∷ xs) as_ [] bs e P p = ([], ap (λ (z : List Line). x ∷ z) (sym (append_nil xs)), tt)
+  where
+    append_nil : (us : List Line) → us ++ [] ≡ us
+    append_nil [] = refl
+    append_nil (u ∷ us) = ap (λ (z : List Line). u ∷ z) (append_nil us)
+longer_of-left (x ∷ xs) as_ (y ∷ ys) bs e P p = let r = longer_of-left xs as_ ys bs (tails x y (xs ++ as_) (ys ++ bs) e) P p in (r.0, ap (λ (z : List Line). x ∷ z) r.1, r.2)
+  where
+    tails : (a b : Line) (us vs : List Line) → (a ∷ us) ≡ (b ∷ vs) → us ≡ vs
+    tails a b us vs e = cc
+
+longer_of-right : (xs as_ ys bs : List Line) → xs ++ as_ ≡ ys ++ bs → (Q : Line → Type 0) → Each Q bs → (news : List Line) × (longer_of xs ys ≡ ys ++ news) × Each Q news
+longer_of-right [] as_ ys bs e Q q = ([], sym (append_nil ys), tt)
+  where
+    append_nil : (us : List Line) → us ++ [] ≡ us
+    append_nil [] = refl
+    append_nil (u ∷ us) = ap (λ (z : List Line). u ∷ z) (append_nil us)
+longer_of-right (x ∷ xs) as_ [] bs e Q q = (x ∷ xs, refl, Each-left Q (x ∷ xs) as_ (subst (Each Q) (sym e) q))
+longer_of-right (x ∷ xs) as_ (y ∷ ys) bs e Q q = let r = longer_of-right xs as_ ys bs (tails x y (xs ++ as_) (ys ++ bs) e) Q q in (r.0, (λ i. heads x y (xs ++ as_) (ys ++ bs) e i ∷ r.1 i), r.2)
+  where
+    tails : (a b : Line) (us vs : List Line) → (a ∷ us) ≡ (b ∷ vs) → us ≡ vs
+    tails a b us vs e = cc
+
+    heads : (a b : Line) (us vs : List Line) → (a ∷ us) ≡ (b ∷ vs) → a ≡ b
+    heads a b us vs e = cc
+
+-- what is said of the longer of two beginnings, beside the journal
+module _ (caller past other : ℕ) (seen ls log : List Line) (g : Grows caller past seen log) (f : Follows other ls log) where
+  together : seen ++ g.news ≡ ls ++ f.news
+  together = sym g.longer ∙ f.longer
+
+  abbrev Mine : Line → Type 0
+  Mine l = (l.caller ≢ caller) × (past ≤ l.ticket)
+
+  mine : Each Mine g.news
+  mine = Each-both (λ l. l.caller ≢ caller) (λ l. past ≤ l.ticket) g.news g.others g.later
+
+  pub Grows-longer_of : Grows caller past seen (longer_of seen ls)
+  Grows-longer_of = let r = longer_of-left seen g.news ls f.news together Mine mine in record {
+    news = r.0;
+    longer = r.1;
+    others = Each-weaker Mine (λ l. l.caller ≢ caller) (λ l p. p.0) r.0 r.2;
+    later = Each-weaker Mine (λ l. past ≤ l.ticket) (λ l p. p.1) r.0 r.2;
+  }
+
+  pub Follows-longer_of : Follows other ls (longer_of seen ls)
+  Follows-longer_of = let r = longer_of-right seen g.news ls f.news together (λ l. other ≤ l.ticket) f.later in record { news = r.0; longer = r.1; later = r.2 }
+
+  pub Grows-merged : Grows caller (max past other) (longer_of seen ls) log
+  Grows-merged = let r = longer_of-splits Mine (λ l. other ≤ l.ticket) seen g.news ls f.news together mine f.later in record {
+    news = r.0;
+    longer = g.longer ∙ r.1;
+    others = Each-weaker Mine (λ l. l.caller ≢ caller) (λ l p. p.0) r.0 r.2;
+    later = Each-weaker (λ l. Mine l × (other ≤ l.ticket)) (λ l. max past other ≤ l.ticket) (λ l p. max_least past other l.ticket p.0.1 p.1) r.0 (Each-both Mine (λ l. other ≤ l.ticket) r.0 r.2 r.3);
+  }

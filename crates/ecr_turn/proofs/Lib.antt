@@ -1,0 +1,4 @@
+pub mod Views
+pub mod Journals
+pub mod Orders
+pub mod Moves

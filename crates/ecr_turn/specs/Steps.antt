@@ -1,0 +1,85 @@
+-- What each step tells the one who makes it.
+use Rattle.std.specs.Prelude.{◌≡◌, ◌≢◌, ℕ, suc, max, ◌≤◌, List, [], ◌∷◌, Option, Some}
+use Rattle.atomic_table.specs.Table.{Me, Step}
+use Rattle.ecr_model.specs.declared.journal.Line.{Line}
+use Rattle.ecr_model.specs.declared.journal.Frame.{Frame}
+use Rattle.ecr_turn.specs.declared.board.View.{View}
+use Rattle.ecr_turn.specs.declared.board.Stage.TheVariants.{Idle, Waits, Holds, Recorded, Named, Joined, Spent}
+use Rattle.ecr_turn.specs.declared.board.Stage.{Stage}
+use Rattle.ecr_model.specs.declared.journal.CellKey.TheVariants.{Directory}
+use Rattle.ecr_turn.specs.Rule.{Each, Grows, Follows, Rises, HasTicket, joined_past, joined_seen}
+
+abbrev Mine : Type 0 → Type 0
+Mine B = Me (Option B) View
+
+abbrev At : Type 0 → Type 0
+At B = Step (Option B)
+
+abbrev pub waiting : ℕ → View → View
+waiting t v = record { stage = Waits t; caller = v.caller; past = v.past; seen = v.seen; frame = v.frame }
+
+abbrev pub holding : ℕ → List Line → View → View
+holding t log v = record { stage = Holds t; caller = v.caller; past = v.past; seen = log; frame = v.frame }
+
+abbrev pub having_recorded : ℕ → List Line → View → View
+having_recorded t log v = record { stage = Recorded t; caller = v.caller; past = v.past; seen = log; frame = v.frame }
+
+abbrev pub gone_by : ℕ → View → View
+gone_by t v = record { stage = Idle; caller = v.caller; past = suc t; seen = v.seen; frame = v.frame }
+
+-- the longer of two journals of which one is a beginning of the other
+abbrev pub longer_of : List Line → List Line → List Line
+longer_of [] ys = ys
+longer_of (x ∷ xs) [] = x ∷ xs
+longer_of (x ∷ xs) (y ∷ ys) = x ∷ longer_of xs ys
+
+abbrev pub number_of : Stage → ℕ
+number_of (Named n) = n
+number_of _ = 0
+
+abbrev pub naming : ℕ → View → View
+naming n v = record { stage = Named n; caller = v.caller; past = v.past; seen = v.seen; frame = v.frame }
+
+abbrev pub settled : View → View
+settled v = record { stage = Idle; caller = v.caller; past = v.past; seen = v.seen; frame = v.frame }
+
+-- the pass of the caller that was named
+abbrev pub newborn : View → View
+newborn v = record { stage = Idle; caller = number_of v.stage; past = v.past; seen = v.seen; frame = v.frame }
+
+-- a pass to which another was joined
+abbrev pub joining : View → View → View
+joining v w = record { stage = Joined w.past w.seen; caller = v.caller; past = v.past; seen = v.seen; frame = v.frame }
+
+abbrev pub no_frame : Frame
+no_frame = record { cell = Directory (record { region = []; account = [] }); served = []; limits = record { names = 0; images = 0; tags = 0; parts = 0; bytes = 0 } }
+
+abbrev pub spent : View
+spent = record { stage = Spent; caller = 0; past = 0; seen = []; frame = no_frame }
+
+-- the pass with the longer journal and the greater `past` of the two
+abbrev pub merged : View → View
+merged v = record { stage = Idle; caller = v.caller; past = max v.past (joined_past v.stage); seen = longer_of v.seen (joined_seen v.stage); frame = v.frame }
+
+module _ {B : Type 0} where
+  -- the number of a caller to come, whom no entry names
+  abbrev pub named : At B → Mine B → ℕ → Mine B → Type 0
+  named st m r m' = (r ≡ st.first → (m' ≡ (naming r m.0, m.1)) × (r ≢ m.0.caller) × Each (λ l. l.caller ≢ r) m.0.seen) × (r ≢ st.first → m' ≡ m)
+
+  abbrev pub took_in : At B → Mine B → ℕ → Mine B → Type 0
+  took_in st m r m' = (p : ℕ) (ls : List Line) → m.0.stage ≡ Joined p ls → (m' ≡ (merged m.0, m.1)) × Grows m.0.caller m.0.past m.0.seen (longer_of m.0.seen ls) × Follows p ls (longer_of m.0.seen ls)
+
+  -- the ticket is drawn where the word was as expected
+  abbrev pub drew : At B → Mine B → ℕ → Mine B → Type 0
+  drew st m r m' = (r ≡ st.first → m' ≡ (waiting r m.0, m.1)) × (r ≢ st.first → m' ≡ m)
+
+  -- the turn is found where the number served is the ticket
+  abbrev pub looked : (B → List Line) → (B → Frame) → At B → Mine B → ℕ → Mine B → Type 0
+  looked lines frame st m r m' = (t : ℕ) → m.0.stage ≡ Waits t → (t ≢ r → m' ≡ m)
+      × (t ≡ r → (b : B) × (m' ≡ (holding t (lines b) m.0, (0, Some b) ∷ m.1)) × (frame b ≡ m.0.frame) × (m.0.past ≤ t) × Grows m.0.caller m.0.past m.0.seen (lines b) × Rises 0 (lines b) t)
+
+  abbrev pub recorded : (B → List Line) → At B → Mine B → ℕ → Mine B → Type 0
+  recorded lines st m r m' = (t : ℕ) (b : B) → m.0.stage ≡ Holds t → m.1 ≡ (0, Some b) ∷ [] → m' ≡ (having_recorded t (lines b) m.0, m.1)
+
+  abbrev pub passed_on : At B → Mine B → ℕ → Mine B → Type 0
+  passed_on st m r m' = (t : ℕ) → HasTicket t m.0 → m' ≡ (gone_by t m.0, [])

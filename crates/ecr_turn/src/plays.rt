@@ -1,0 +1,64 @@
+// What each step tells the one who makes it.
+ghost use Rattle.ecr_turn.specs.Steps.{drew, looked, recorded, passed_on, named, took_in, settled, newborn, joining, spent};
+
+use crate::board::View;
+use crate::journal::Journal;
+use atomic_table::{Join, Play, Split};
+use std::alloc::Global;
+use std::marker::PhantomData;
+
+pub struct Draw;
+
+impl<S> Play<Option<Box<S, Global>>, View> for Draw {
+    ghost then = { drew };
+}
+
+pub struct Look<S> {
+    state: PhantomData<S>,
+}
+
+impl<S: Journal> Play<Option<Box<S, Global>>, View> for Look<S> {
+    ghost then = { looked (λ b. S.lines b.value) (λ b. S.frame b.value) };
+}
+
+pub struct Record<S> {
+    state: PhantomData<S>,
+}
+
+impl<S: Journal> Play<Option<Box<S, Global>>, View> for Record<S> {
+    ghost then = { recorded (λ b. S.lines b.value) };
+}
+
+pub struct PassOn;
+
+impl<S> Play<Option<Box<S, Global>>, View> for PassOn {
+    ghost then = { passed_on };
+}
+
+pub struct Name;
+
+impl<S> Play<Option<Box<S, Global>>, View> for Name {
+    ghost then = { named };
+}
+
+pub struct Fork;
+
+impl Split<View> for Fork {
+    ghost left = { settled };
+
+    ghost right = { newborn };
+}
+
+pub struct Glue;
+
+impl Join<View> for Glue {
+    ghost both = { joining };
+
+    ghost spent = { spent };
+}
+
+pub struct TakeIn;
+
+impl<S> Play<Option<Box<S, Global>>, View> for TakeIn {
+    ghost then = { took_in };
+}
