@@ -31,21 +31,6 @@ agreed-le [] t = (omega arith, omega arith)
 agreed-le (p ∷ ps) [] = (omega arith, omega arith)
 agreed-le (p ∷ ps) (t ∷ ts) = grind (arith, agreed-le ps ts)
 
-agreed-at : (p t : List ℕ) (i : ℕ) → i < length p → i < length t → agreed (drop i p) (drop i t) ≡ agreed (slice_index p i ∷ drop (i + 1) p) (slice_index t i ∷ drop (i + 1) t)
-agreed-at p t i h k = ap (λ l. agreed l (drop i t)) (drop_more p i 0 h) ∙ ap (λ l. agreed (slice_index p i ∷ drop (i + 1) p) l) (drop_more t i 0 k)
-
-pub agreed-next : (p t : List ℕ) (i : ℕ) → i < length p → i < length t → (slice_index p i ≡ 42 → ⊥) → slice_index p i ≡ slice_index t i → agreed (drop i p) (drop i t) ≡ suc (agreed (drop (i + 1) p) (drop (i + 1) t))
-agreed-next p t i h k e f = agreed-at p t i h k ∙ grind (arith, e, f)
-
-pub agreed-star : (p t : List ℕ) (i : ℕ) → i < length p → i < length t → slice_index p i ≡ 42 → agreed (drop i p) (drop i t) ≡ 0
-agreed-star p t i h k e = agreed-at p t i h k ∙ grind (arith, e)
-
-pub agreed-other : (p t : List ℕ) (i : ℕ) → i < length p → i < length t → (slice_index p i ≡ slice_index t i → ⊥) → agreed (drop i p) (drop i t) ≡ 0
-agreed-other p t i h k e = agreed-at p t i h k ∙ grind (arith, e)
-
-pub agreed-past_pattern : (p t : List ℕ) (i : ℕ) → length p ≤ i → agreed (drop i p) t ≡ 0
-agreed-past_pattern p t i h = ap (λ l. agreed l t) (drop_all i p h)
-
 agreed-none : (p : List ℕ) → agreed p [] ≡ 0
 agreed-none [] = refl
 agreed-none (p ∷ ps) = refl
