@@ -17,21 +17,27 @@ abbrev pub MayFollow : ℕ → ℕ → List Line → List Line → Type 0
 MayFollow ticket caller before after = (after ≡ before) ⊎ ((l : Line) × (after ≡ before ++ l ∷ []) × (l.ticket ≡ ticket) × (l.caller ≡ caller))
 
 module _ {B : Type 0} where
+  -- the number of the pass's caller
   abbrev pub caller_of : Seat (Option B) View → ℕ
   caller_of s = s.me.0.caller
 
+  -- one more than the last ticket that it knows to be passed on
   abbrev pub past_of : Seat (Option B) View → ℕ
   past_of s = s.me.0.past
 
+  -- the journal that it has seen
   abbrev pub seen_of : Seat (Option B) View → List Line
   seen_of s = s.me.0.seen
 
+  -- what is fixed throughout that journal
   abbrev pub frame_of : Seat (Option B) View → Frame
   frame_of s = s.me.0.frame
 
+  -- it is in no turn, and holds nothing
   abbrev pub IsIdle : Seat (Option B) View → Type 0
   IsIdle s = (s.me.0.stage ≡ Idle) × (s.me.1 ≡ [])
 
+  -- a pass of the same turnstile, caller and frame
   abbrev pub IsSamePass : Seat (Option B) View → Seat (Option B) View → Type 0
   IsSamePass s t = (t.table_id ≡ s.table_id) × (t.me.0.caller ≡ s.me.0.caller) × (t.me.0.frame ≡ s.me.0.frame)
 

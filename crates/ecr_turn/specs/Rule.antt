@@ -10,6 +10,7 @@ use Rattle.ecr_turn.specs.declared.board.View.{View}
 use Rattle.ecr_turn.specs.declared.board.Stage.{Stage}
 use Rattle.ecr_turn.specs.declared.board.Stage.TheVariants.{Idle, Waits, Holds, Recorded, Named, Joined, Spent}
 
+-- the ticket of a pass that waits or is in its turn
 abbrev pub ticket_of : Stage → Option ℕ
 ticket_of Idle = None
 ticket_of (Waits t) = Some t
@@ -19,6 +20,7 @@ ticket_of (Joined p ls) = None
 ticket_of (Named n) = None
 ticket_of Spent = None
 
+-- the number that was drawn for a caller to come
 abbrev pub named_of : Stage → Option ℕ
 named_of Idle = None
 named_of (Waits t) = None
@@ -28,6 +30,7 @@ named_of (Joined p ls) = None
 named_of (Named n) = Some n
 named_of Spent = None
 
+-- the pass is in its turn
 abbrev pub in_turn : Stage → Bool
 in_turn Idle = false
 in_turn (Waits t) = false
@@ -37,6 +40,7 @@ in_turn (Joined p ls) = false
 in_turn (Named n) = false
 in_turn Spent = false
 
+-- the entry of its turn is counted already
 abbrev pub has_recorded : Stage → Bool
 has_recorded Idle = false
 has_recorded (Waits t) = false
@@ -46,6 +50,7 @@ has_recorded (Joined p ls) = false
 has_recorded (Named n) = false
 has_recorded Spent = false
 
+-- the pass wasn't joined to another
 abbrev pub is_live : Stage → Bool
 is_live Idle = true
 is_live (Waits t) = true
@@ -55,15 +60,17 @@ is_live (Joined p ls) = true
 is_live (Named n) = true
 is_live Spent = false
 
--- the `past` and the journal of the pass that was joined
+-- the `past` of the pass that was joined
 abbrev pub joined_past : Stage → ℕ
 joined_past (Joined p ls) = p
 joined_past _ = 0
 
+-- and what it had seen
 abbrev pub joined_seen : Stage → List Line
 joined_seen (Joined p ls) = ls
 joined_seen _ = []
 
+-- each line of the journal has the property
 abbrev pub Each : (Line → Type 0) → List Line → Type 0
 Each P [] = Unit {0}
 Each P (l ∷ ls) = P l × Each P ls
@@ -86,9 +93,11 @@ pub record Follows (past : ℕ) (before after : List Line) : Type 0 where
   pub longer : after ≡ before ++ news
   pub later : Each (λ l. past ≤ l.ticket) news
 
+-- the first pass: it has seen nothing
 abbrev pub newcomer : Frame → View
 newcomer fixed = record { stage = Idle; caller = 0; past = 0; seen = []; frame = fixed }
 
+-- the pass waits for that ticket's turn, or is in it
 abbrev pub HasTicket : ℕ → View → Type 0
 HasTicket t v = ticket_of v.stage ≡ Some t
 
@@ -107,9 +116,11 @@ pub record Suits (log : List Line) (tickets serving callers : ℕ) (fixed : Fram
   pub promised : (n : ℕ) → named_of v.stage ≡ Some n → (n < callers) × (n ≢ v.caller) × Grows n v.past v.seen log
   pub joined : (joined_past v.stage ≤ serving) × Follows (joined_past v.stage) (joined_seen v.stage) log
 
+-- no pass is at such a stage
 abbrev pub NoneOf : (Stage → Bool) → List View → Type 0
 NoneOf test views = (j : ℕ) (v : View) → get_elem? views j ≡ some v → test v.stage ≡ false
 
+-- one pass at most is like that
 abbrev pub One : (View → Type 0) → List View → Type 0
 One P views = (j k : ℕ) (v w : View) → get_elem? views j ≡ some v → get_elem? views k ≡ some w → P v → P w → j ≡ k
 
@@ -118,6 +129,8 @@ module _ {B : Type 0} (lines : B → List Line) (frame : B → Frame) (fixed : F
   abbrev pub AtHome : maybe.Option (Option B) → List Line → Type 0
   AtHome home log = (b : B) × (home ≡ some (Some b)) × (lines b ≡ log) × (frame b ≡ fixed)
 
+  -- the order of turns: the lines of the journal are counted, tickets are served one by one, each ticket that was drawn
+  -- and not yet served has one pass, callers' numbers all differ, and outside a turn the state is at home
   pub record Order (count tickets serving callers : ℕ) (home : maybe.Option (Option B)) (views : List View) : Type 0 where
     pub log : List Line
     pub counted : length log ≡ count
@@ -132,6 +145,7 @@ module _ {B : Type 0} (lines : B → List Line) (frame : B → Frame) (fixed : F
     pub one_caller : (n : ℕ) → One (HasNumber n) views
     pub at_home : NoneOf in_turn views → AtHome home log
 
+  -- the order, of the table's words, its slot and its passes
   pub record Kept (s : State (Option B) View) : Type 0 where
     pub count : ℕ
     pub tickets : ℕ

@@ -9,21 +9,27 @@ use Rattle.ecr_turn.specs.declared.board.Stage.{Stage}
 use Rattle.ecr_model.specs.declared.journal.CellKey.TheVariants.{Directory}
 use Rattle.ecr_turn.specs.Rule.{Each, Grows, Follows, Rises, HasTicket, joined_past, joined_seen}
 
+-- what the one who makes a step knows of itself
 abbrev Mine : Type 0 → Type 0
 Mine B = Me (Option B) View
 
+-- the step in the table
 abbrev At : Type 0 → Type 0
 At B = Step (Option B)
 
+-- it waits for the turn of the ticket
 abbrev pub waiting : ℕ → View → View
 waiting t v = record { stage = Waits t; caller = v.caller; past = v.past; seen = v.seen; frame = v.frame }
 
+-- it is in its turn, and has seen the journal
 abbrev pub holding : ℕ → List Line → View → View
 holding t log v = record { stage = Holds t; caller = v.caller; past = v.past; seen = log; frame = v.frame }
 
+-- the entry of its turn is counted
 abbrev pub having_recorded : ℕ → List Line → View → View
 having_recorded t log v = record { stage = Recorded t; caller = v.caller; past = v.past; seen = log; frame = v.frame }
 
+-- its turn was passed on
 abbrev pub gone_by : ℕ → View → View
 gone_by t v = record { stage = Idle; caller = v.caller; past = suc t; seen = v.seen; frame = v.frame }
 
@@ -33,13 +39,16 @@ longer_of [] ys = ys
 longer_of (x ∷ xs) [] = x ∷ xs
 longer_of (x ∷ xs) (y ∷ ys) = x ∷ longer_of xs ys
 
+-- the number of the caller that was named
 abbrev pub number_of : Stage → ℕ
 number_of (Named n) = n
 number_of _ = 0
 
+-- it has drawn a number for a caller to come
 abbrev pub naming : ℕ → View → View
 naming n v = record { stage = Named n; caller = v.caller; past = v.past; seen = v.seen; frame = v.frame }
 
+-- it is in no turn
 abbrev pub settled : View → View
 settled v = record { stage = Idle; caller = v.caller; past = v.past; seen = v.seen; frame = v.frame }
 
@@ -51,9 +60,11 @@ newborn v = record { stage = Idle; caller = number_of v.stage; past = v.past; se
 abbrev pub joining : View → View → View
 joining v w = record { stage = Joined w.past w.seen; caller = v.caller; past = v.past; seen = v.seen; frame = v.frame }
 
+-- a frame of nothing
 abbrev pub no_frame : Frame
 no_frame = record { cell = Directory (record { region = []; account = [] }); served = []; limits = record { names = 0; images = 0; tags = 0; parts = 0; bytes = 0 } }
 
+-- a pass that was joined to another
 abbrev pub spent : View
 spent = record { stage = Spent; caller = 0; past = 0; seen = []; frame = no_frame }
 
@@ -66,6 +77,7 @@ module _ {B : Type 0} where
   abbrev pub named : At B → Mine B → ℕ → Mine B → Type 0
   named st m r m' = (r ≡ st.first → (m' ≡ (naming r m.0, m.1)) × (r ≢ m.0.caller) × Each (λ l. l.caller ≢ r) m.0.seen) × (r ≢ st.first → m' ≡ m)
 
+  -- what was joined is taken in: the longer journal, and the greater `past`
   abbrev pub took_in : At B → Mine B → ℕ → Mine B → Type 0
   took_in st m r m' = (p : ℕ) (ls : List Line) → m.0.stage ≡ Joined p ls → (m' ≡ (merged m.0, m.1)) × Grows m.0.caller m.0.past m.0.seen (longer_of m.0.seen ls) × Follows p ls (longer_of m.0.seen ls)
 
@@ -78,8 +90,10 @@ module _ {B : Type 0} where
   looked lines frame st m r m' = (t : ℕ) → m.0.stage ≡ Waits t → (t ≢ r → m' ≡ m)
       × (t ≡ r → (b : B) × (m' ≡ (holding t (lines b) m.0, (0, Some b) ∷ m.1)) × (frame b ≡ m.0.frame) × (m.0.past ≤ t) × Grows m.0.caller m.0.past m.0.seen (lines b) × Rises 0 (lines b) t)
 
+  -- the entry is counted, and the journal seen
   abbrev pub recorded : (B → List Line) → At B → Mine B → ℕ → Mine B → Type 0
   recorded lines st m r m' = (t : ℕ) (b : B) → m.0.stage ≡ Holds t → m.1 ≡ (0, Some b) ∷ [] → m' ≡ (having_recorded t (lines b) m.0, m.1)
 
+  -- the turn is given to the next ticket
   abbrev pub passed_on : At B → Mine B → ℕ → Mine B → Type 0
   passed_on st m r m' = (t : ℕ) → HasTicket t m.0 → m' ≡ (gone_by t m.0, [])

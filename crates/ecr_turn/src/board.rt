@@ -10,10 +10,15 @@ use std::snapshot::Snapshot;
 
 /// Where a pass stands. A number is a ticket, and at `Named` the number of a caller to come.
 pub enum Stage {
+    /// In no turn.
     Idle,
+    /// It has drawn the ticket.
     Waits(u64),
+    /// It is in the ticket's turn.
     Holds(u64),
+    /// It is in the ticket's turn, and its entry is counted.
     Recorded(u64),
+    /// It has drawn the number of a caller to come.
     Named(u64),
     /// Another pass was joined to it: that one's `past`, and what it had seen.
     Joined(u64, LinkedList<Line>),
@@ -24,13 +29,17 @@ pub enum Stage {
 /// What a pass knows. No value of it is made.
 pub struct View {
     pub stage: Stage,
+    /// The number of its caller.
     pub caller: u64,
     /// One more than the last ticket that it passed on.
     pub past: u64,
+    /// The journal that it has seen.
     pub seen: LinkedList<Line>,
+    /// What is fixed throughout it.
     pub frame: Frame,
 }
 
+/// The rule of the table.
 pub struct InTurn<S> {
     state: PhantomData<S>,
 }
@@ -43,6 +52,8 @@ impl<S: Journal> TableRule<Option<Box<S, Global>>, View, Snapshot<S>> for InTurn
     ghost first = { λ key. newcomer (S.frame key.value) };
 }
 
+/// The table of a turnstile over the state.
 pub type Board<S> = Table<Option<Box<S, Global>>, View, Snapshot<S>, InTurn<S>, Global>;
 
+/// A pass's place in it.
 pub type Place<S> = Seat<Option<Box<S, Global>>, View>;

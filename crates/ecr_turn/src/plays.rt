@@ -7,12 +7,14 @@ use atomic_table::{Join, Play, Split};
 use std::alloc::Global;
 use std::marker::PhantomData;
 
+/// A ticket is drawn.
 pub struct Draw;
 
 impl<S> Play<Option<Box<S, Global>>, View> for Draw {
     ghost then = { drew };
 }
 
+/// The number that is served is looked at.
 pub struct Look<S> {
     state: PhantomData<S>,
 }
@@ -21,6 +23,7 @@ impl<S: Journal> Play<Option<Box<S, Global>>, View> for Look<S> {
     ghost then = { looked (λ b. S.lines b.value) (λ b. S.frame b.value) };
 }
 
+/// An entry is counted.
 pub struct Record<S> {
     state: PhantomData<S>,
 }
@@ -29,18 +32,21 @@ impl<S: Journal> Play<Option<Box<S, Global>>, View> for Record<S> {
     ghost then = { recorded (λ b. S.lines b.value) };
 }
 
+/// The turn is passed on.
 pub struct PassOn;
 
 impl<S> Play<Option<Box<S, Global>>, View> for PassOn {
     ghost then = { passed_on };
 }
 
+/// A number is drawn for a caller to come.
 pub struct Name;
 
 impl<S> Play<Option<Box<S, Global>>, View> for Name {
     ghost then = { named };
 }
 
+/// A pass for that caller is split off.
 pub struct Fork;
 
 impl Split<View> for Fork {
@@ -49,6 +55,7 @@ impl Split<View> for Fork {
     ghost right = { newborn };
 }
 
+/// A pass is joined to another.
 pub struct Glue;
 
 impl Join<View> for Glue {
@@ -57,6 +64,7 @@ impl Join<View> for Glue {
     ghost spent = { spent };
 }
 
+/// What a joined pass had seen is taken in.
 pub struct TakeIn;
 
 impl<S> Play<Option<Box<S, Global>>, View> for TakeIn {
