@@ -38,6 +38,20 @@ fn creation(alloc: Global, body: &str) -> Result<String, AllocError> {
     )
 }
 
+fn creation_of(alloc: Global, name: &str) -> Result<String, AllocError> {
+    let body = format!(in alloc; "{{\"repositoryName\":\"{name}\"}}")?;
+    creation(alloc, body.as_str())
+}
+
+// A text of that many letters.
+fn letters(alloc: Global, size: usize) -> Result<String, AllocError> {
+    let mut text = String::new(alloc);
+    for _ in 0..size {
+        text.push_str("a")?;
+    }
+    Ok(text)
+}
+
 fn reply(alloc: Global, status: &str, body: &str) -> Result<String, AllocError> {
     let size = body.len();
     format!(in alloc;
@@ -90,6 +104,8 @@ fn a_creation_is_answered_and_another_refused(rt: HostRuntime) -> Result<(), Fai
     )?;
     let replied = format!(in alloc; "{made}{there}")?;
     check(&rt, alloc, twice.as_bytes(), replied.as_bytes(), 0)?;
+    let joined = format!(in alloc; "{first}{first}")?;
+    check(&rt, alloc, joined.as_bytes(), replied.as_bytes(), 0)?;
     let last = first.len() - first.len().min(1);
     check(&rt, alloc, &first.as_bytes()[..last], b"", 7)?;
     Ok(())
@@ -111,9 +127,15 @@ fn a_name_off_its_form_is_refused(rt: HostRuntime) -> Result<(), Fail> {
         let request = creation(alloc, body)?;
         check(&rt, alloc, request.as_bytes(), invalid.as_bytes(), 0)?;
     }
-    let request = creation(alloc, "{\"repositoryName\":\"a__b/c--d\"}")?;
-    let made = created(alloc, "a__b/c--d")?;
-    check(&rt, alloc, request.as_bytes(), made.as_bytes(), 0)?;
+    let longest = letters(alloc, 256)?;
+    for name in ["ab", longest.as_str(), "a__b/c--d"] {
+        let request = creation_of(alloc, name)?;
+        let made = created(alloc, name)?;
+        check(&rt, alloc, request.as_bytes(), made.as_bytes(), 0)?;
+    }
+    let longer = letters(alloc, 257)?;
+    let request = creation_of(alloc, longer.as_str())?;
+    check(&rt, alloc, request.as_bytes(), invalid.as_bytes(), 0)?;
     Ok(())
 }
 
