@@ -206,7 +206,8 @@ impl<S: Journal> Turnstile<S> {
         self.board.shared.load::<TakeIn>(seat, 0);
     }
 
-    /// A pass for another caller, who begins with what this one has seen. The numbers of callers all differ.
+    /// A pass for another caller, who begins with what this one has seen. Its caller's number is neither this one's
+    /// nor that of an entry which this one has seen.
     pub fn split<R: Wait>(&self, rt: &R, pass: &mut Pass<S>) -> Result<Pass<S>, Mem>
         requires { pass.old.seat.table_id ≡ self.now.board.shared.table_id }
         ensures kept { IsSamePass pass.old.seat pass.new.seat × IsAsWise pass.old.seat pass.new.seat }
@@ -217,7 +218,8 @@ impl<S: Journal> Turnstile<S> {
         Ok(Pass { seat, caller })
     }
 
-    /// Takes in what another pass has seen: the longer of the two journals, and the greater `past`.
+    /// Takes in what another pass has seen: the pass has then seen a journal that begins with each of the two, and has
+    /// the greater `past`.
     pub fn join(&self, pass: &mut Pass<S>, other: Pass<S>)
         requires { (pass.old.seat.table_id ≡ self.now.board.shared.table_id) × (other.seat.table_id ≡ self.now.board.shared.table_id) }
         ensures pass { IsSamePass pass.old.seat pass.new.seat × (past_of pass.new.seat ≡ max (past_of pass.old.seat) (past_of other.seat)) }
@@ -262,7 +264,7 @@ impl<S: Journal> Pass<S> {
 }
 
 impl<'a, S: Journal> Turn<'a, S> {
-    /// The ticket, which no other turn of this turnstile has.
+    /// The ticket, which is above those of all entries that the turn began with.
     pub fn ticket(&self) -> u64
         ensures { result ≡ self.now.held.ticket }
     {
