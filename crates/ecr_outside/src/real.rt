@@ -158,7 +158,7 @@ pub struct RealClock<C> {
 impl<C: time::Clock> RealClock<C> {
     /// The system's clock, as `&rt`.
     ///
-    /// No clause is owed: the real clock tells no moments, and its count of them is free.
+    /// No clause is owed: the real clock tells no moments.
     pub fn new(clock: C) -> RealClock<C> {
         RealClock { clock, last: 0 }
     }
