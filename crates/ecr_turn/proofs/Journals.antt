@@ -1,10 +1,8 @@
 -- Laws of journals: rising tickets, and a journal that others make longer.
-use Rattle.std.proofs.Common.{◌≡◌, ◌≢◌, ℕ, suc, ◌+◌, ◌<◌, ◌≤◌, true, false, eqb, eq-eqb, ne_eqb, ⊎_elim, List, [], ◌∷◌, ◌++◌, length, refl, sym, ap, ◌∙◌, subst, arith, append_assoc, length-append}
+use Rattle.std.proofs.Common.{◌≡◌, ◌≢◌, ℕ, suc, ◌+◌, ◌<◌, ◌≤◌, true, false, ◌⊎◌, eqb, eq-eqb, ne_eqb, ⊎_elim, inl, inr, List, [], ◌∷◌, ◌++◌, length, refl, sym, ap, ◌∙◌, subst, arith, append_assoc, append-nil, length-append}
 use Rattle.ecr_model.specs.declared.journal.Line.{Line}
 use mathlib.Core.Bool.{not}
-use Rattle.ecr_turn.specs.Rule.{Each, Rises, Grows, Follows}
-use Rattle.ecr_turn.specs.Passes.{MayFollow}
-use Rattle.ecr_turn.specs.Steps.{longer_of}
+use Rattle.ecr_turn.specs.Journals.{Each, Rises, Grows, Follows, IsBeginning, MayFollow, longer_of}
 use Rattle.std.proofs.Common.{max}
 use Rattle.ecr_turn.proofs.Views.{off}
 
@@ -31,12 +29,12 @@ pub Rises-length : (low : ℕ) (ls : List Line) (high : ℕ) → Rises low ls hi
 Rises-length low [] high r = omega arith
 Rises-length low (x ∷ ls) high r = let h = Rises-length (suc x.ticket) ls high r.1 in let h' = r.0 in omega arith
 
+pub Rises-each : (low : ℕ) (ls : List Line) (high : ℕ) → Rises low ls high → Each (λ l. l.ticket < high) ls
+Rises-each low [] high r = tt
+Rises-each low (x ∷ ls) high r = (let h = Rises-length (suc x.ticket) ls high r.1 in omega arith, Rises-each (suc x.ticket) ls high r.1)
+
 pub Grows-none : (caller past : ℕ) (log : List Line) → Grows caller past log log
-Grows-none caller past log = record { news = []; longer = sym (append_nil log); others = tt; later = tt }
-  where
-    append_nil : (xs : List Line) → xs ++ [] ≡ xs
-    append_nil [] = refl
-    append_nil (x ∷ xs) = ap (λ (ys : List Line). x ∷ ys) (append_nil xs)
+Grows-none caller past log = record { news = []; longer = sym (append-nil log); others = tt; later = tt }
 
 pub Grows-snoc : (caller past : ℕ) (before after : List Line) (l : Line) → Grows caller past before after → l.caller ≢ caller → past ≤ l.ticket → Grows caller past before (after ++ l ∷ [])
 Grows-snoc caller past before after l g other late = record {
@@ -91,17 +89,36 @@ pub Grows-follows : (caller past : ℕ) (before after : List Line) → Grows cal
 Grows-follows caller past before after g = record { news = g.news; longer = g.longer; later = g.later }
 
 -- a caller of whom no entry stands in the journal
-pub Grows-newcomer : (caller past n : ℕ) (before after : List Line) → Grows caller past before after → Each (λ l. l.caller < n) after → Grows n past before after
-Grows-newcomer caller past n before after g all = record {
-  news = g.news;
-  longer = g.longer;
-  others = Each-weaker (λ l. l.caller < n) (λ l. l.caller ≢ n) (λ l lt e. omega arith) g.news (Each-right (λ l. l.caller < n) before g.news (subst (Each (λ l. l.caller < n)) g.longer all));
-  later = g.later;
-}
+pub Grows-unnamed : (caller past n : ℕ) (before after : List Line) → Grows caller past before after → Each (λ l. l.caller ≢ n) after → Grows n past before after
+Grows-unnamed caller past n before after g all = record { news = g.news; longer = g.longer; others = Each-right (λ l. l.caller ≢ n) before g.news (subst (Each (λ l. l.caller ≢ n)) g.longer all); later = g.later }
 
-tail_of : List Line → List Line
-tail_of [] = []
-tail_of (x ∷ xs) = xs
+pub longer_of-nil : (xs : List Line) → longer_of xs [] ≡ xs
+longer_of-nil [] = refl
+longer_of-nil (x ∷ xs) = refl
+
+pub longer_of-grows : (xs news : List Line) → longer_of xs (xs ++ news) ≡ xs ++ news
+longer_of-grows [] news = refl
+longer_of-grows (x ∷ xs) news = ap (λ (z : List Line). x ∷ z) (longer_of-grows xs news)
+
+longer_of-longer : (ys news : List Line) → longer_of (ys ++ news) ys ≡ ys ++ news
+longer_of-longer [] news = longer_of-nil news
+longer_of-longer (y ∷ ys) news = ap (λ (z : List Line). y ∷ z) (longer_of-longer ys news)
+
+pub longer_of-keeps : (xs ys news : List Line) → xs ≡ ys ++ news → longer_of xs ys ≡ xs
+longer_of-keeps xs ys news e = ap (λ (z : List Line). longer_of z ys) e ∙ (longer_of-longer ys news ∙ sym e)
+
+-- of two beginnings of one journal one is a beginning of the other
+pub ordered : (xs as_ ys bs : List Line) → xs ++ as_ ≡ ys ++ bs → IsBeginning xs ys ⊎ IsBeginning ys xs
+ordered [] as_ ys bs e = inl (ys, refl)
+ordered (x ∷ xs) as_ [] bs e = inr (x ∷ xs, refl)
+ordered (x ∷ xs) as_ (y ∷ ys) bs e = ⊎_elim (λ (h : IsBeginning xs ys). inl (h.0, λ i. heads y x (ys ++ bs) (xs ++ as_) (sym e) i ∷ h.1 i)) (λ (h : IsBeginning ys xs). inr (h.0, λ i. heads x y (xs ++ as_) (ys ++ bs) e i ∷ h.1 i))
+    (ordered xs as_ ys bs (tails x y (xs ++ as_) (ys ++ bs) e))
+  where
+    tails : (a b : Line) (us vs : List Line) → (a ∷ us) ≡ (b ∷ vs) → us ≡ vs
+    tails a b us vs e = cc
+
+    heads : (a b : Line) (us vs : List Line) → (a ∷ us) ≡ (b ∷ vs) → a ≡ b
+    heads a b us vs e = cc
 
 -- two beginnings of one journal: the longer one is a beginning too
 pub longer_of-splits : (P Q : Line → Type 0) (xs as_ ys bs : List Line) → xs ++ as_ ≡ ys ++ bs → Each P as_ → Each Q bs
@@ -116,22 +133,14 @@ longer_of-splits P Q (x ∷ xs) as_ (y ∷ ys) bs e p q = let r = longer_of-spli
 -- what the longer of two has beyond each
 pub longer_of-left : (xs as_ ys bs : List Line) → xs ++ as_ ≡ ys ++ bs → (P : Line → Type 0) → Each P as_ → (news : List Line) × (longer_of xs ys ≡ xs ++ news) × Each P news
 longer_of-left [] as_ ys bs e P p = (ys, refl, Each-left P ys bs (subst (Each P) e p))
-longer_of-left (x ∷ xs) as_ [] bs e P p = ([], ap (λ (z : List Line). x ∷ z) (sym (append_nil xs)), tt)
-  where
-    append_nil : (us : List Line) → us ++ [] ≡ us
-    append_nil [] = refl
-    append_nil (u ∷ us) = ap (λ (z : List Line). u ∷ z) (append_nil us)
+longer_of-left (x ∷ xs) as_ [] bs e P p = ([], ap (λ (z : List Line). x ∷ z) (sym (append-nil xs)), tt)
 longer_of-left (x ∷ xs) as_ (y ∷ ys) bs e P p = let r = longer_of-left xs as_ ys bs (tails x y (xs ++ as_) (ys ++ bs) e) P p in (r.0, ap (λ (z : List Line). x ∷ z) r.1, r.2)
   where
     tails : (a b : Line) (us vs : List Line) → (a ∷ us) ≡ (b ∷ vs) → us ≡ vs
     tails a b us vs e = cc
 
 longer_of-right : (xs as_ ys bs : List Line) → xs ++ as_ ≡ ys ++ bs → (Q : Line → Type 0) → Each Q bs → (news : List Line) × (longer_of xs ys ≡ ys ++ news) × Each Q news
-longer_of-right [] as_ ys bs e Q q = ([], sym (append_nil ys), tt)
-  where
-    append_nil : (us : List Line) → us ++ [] ≡ us
-    append_nil [] = refl
-    append_nil (u ∷ us) = ap (λ (z : List Line). u ∷ z) (append_nil us)
+longer_of-right [] as_ ys bs e Q q = ([], sym (append-nil ys), tt)
 longer_of-right (x ∷ xs) as_ [] bs e Q q = (x ∷ xs, refl, Each-left Q (x ∷ xs) as_ (subst (Each Q) (sym e) q))
 longer_of-right (x ∷ xs) as_ (y ∷ ys) bs e Q q = let r = longer_of-right xs as_ ys bs (tails x y (xs ++ as_) (ys ++ bs) e) Q q in (r.0, (λ i. heads x y (xs ++ as_) (ys ++ bs) e i ∷ r.1 i), r.2)
   where

@@ -1,4 +1,9 @@
 pub mod Views
 pub mod Journals
 pub mod Orders
+pub mod TurnOrders
+pub mod CallerOrders
 pub mod Moves
+pub mod Points
+pub mod JournalLaws
+pub mod RegisterLaws

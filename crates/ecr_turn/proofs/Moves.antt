@@ -1,5 +1,5 @@
 -- Each kind of step may be made: whatever the table is, the rule goes on to hold.
-use Rattle.std.proofs.Common.{◌≡◌, ◌≢◌, ℕ, zero, suc, ◌+◌, ◌%◌, ◌^◌, ◌<◌, ◌≤◌, eqb, true, List, [], ◌∷◌, ◌++◌, get_or, set, Option, Some, None, refl, sym, ap, ◌∙◌, subst, arith}
+use Rattle.std.proofs.Common.{◌≡◌, ◌≢◌, ℕ, zero, suc, ◌+◌, ◌%◌, ◌^◌, ◌<◌, eqb, true, List, [], ◌∷◌, ◌++◌, get_or, set, Option, Some, None, refl, sym, ap, ◌∙◌, subst, arith}
 use mathlib.Core.Logic.{dite}
 use mathlib.Core.Option.{some, none, some-injective, some-ne-none}
 use mathlib.Core.Option as maybe
@@ -13,16 +13,23 @@ use Rattle.ecr_model.specs.declared.journal.Line.{Line}
 use Rattle.ecr_model.specs.declared.journal.Frame.{Frame}
 use Rattle.ecr_turn.specs.declared.board.View.{View}
 use Rattle.ecr_turn.specs.declared.board.Stage.{Stage}
-use Rattle.ecr_turn.specs.declared.board.Stage.TheVariants.{Idle, Waits, Holds, Named, Joined}
-use Rattle.ecr_turn.specs.Rule.{Each, in_turn, HasTicket, Rises, Order, Suits, Kept, newcomer, One, HasNumber}
-use Rattle.ecr_turn.specs.Steps.{waiting, holding, having_recorded, gone_by, drew, looked, recorded, passed_on, naming, settled, newborn, joining, spent, merged, named, took_in}
+use Rattle.ecr_turn.specs.declared.board.Stage.TheVariants.{Idle, Waits, Found, Holds, Named, Joined}
+use Rattle.ecr_turn.specs.Journals.{Each}
+use Rattle.ecr_turn.specs.Turns.{in_turn, has_learned, found_seen, HasTicket, One, HasNumber}
+use Rattle.ecr_turn.specs.Rule.{Order, Suits, Kept, newcomer}
+use Rattle.ecr_turn.specs.Steps.{waiting, finding, holding, having_recorded, gone_by, drew, looked, learned, recorded, passed_on, naming, settled, newborn, joining, spent, merged, named, took_in}
 use Rattle.ecr_turn.proofs.Views.{none_some, same_some, off}
 use Rattle.ecr_turn.proofs.Journals.{Grows-none, Follows-first}
-use Rattle.ecr_turn.proofs.Orders.{draws, finds, records, passes, names, splits, joins, takes_in}
+use Rattle.ecr_turn.proofs.TurnOrders.{draws, finds, learns, records, passes}
+use Rattle.ecr_turn.proofs.CallerOrders.{names, splits, joins, takes_in}
 
 abbrev waits_for : Stage → ℕ
 waits_for (Waits t) = t
 waits_for _ = 0
+
+abbrev found_at : Stage → ℕ
+found_at (Found t ls) = t
+found_at _ = 0
 
 abbrev holds_of : Stage → ℕ
 holds_of (Holds t) = t
@@ -37,11 +44,11 @@ alone_one P v zero zero u w e f p q = refl
 alone_one P v zero (suc k) u w e f p q = absurd (some-ne-none w (sym f))
 alone_one P v (suc j) k u w e f p q = absurd (some-ne-none u (sym e))
 
-abbrev or_else : {B : Type 0} → B → Option B → B
+abbrev pub or_else : {B : Type 0} → B → Option B → B
 or_else d (Some b) = b
 or_else d None = d
 
-abbrev in_hand : {B : Type 0} → B → List (ℕ × Option B) → B
+abbrev pub in_hand : {B : Type 0} → B → List (ℕ × Option B) → B
 in_hand d [] = d
 in_hand d (x ∷ xs) = or_else d x.1
 
@@ -93,7 +100,7 @@ module _ {B : Type 0} (lines : B → List Line) (frame : B → Frame) (fixed : F
   may_look slots id me t waits s r _ at small = let x : ℕ = get_or s.words 2 0 in let is : x ≡ r.serving = ap (λ (ws : List ℕ). get_or ws 2 0) r.words_are in dite (ℕ_discrete t x)
       (λ hit. let now : t ≡ r.serving = hit ∙ is in
       let f = finds lines frame fixed r.count r.tickets r.serving r.callers r.home s.views r.order id me.0 at (waits ∙ ap (λ (z : ℕ). let y : Stage = Waits z in y) now) in let b : B = f.0 in (
-        holding t (lines b) me.0,
+        finding t (lines b) me.0,
         takes 0 (Some b),
         ap (λ (hs : List (maybe.Option (Option B))). get_elem? hs 0) r.homes_are ∙ ap (λ (h : maybe.Option (Option B)). some h) f.1,
         record {
@@ -104,21 +111,32 @@ module _ {B : Type 0} (lines : B → List Line) (frame : B → Frame) (fixed : F
           home = none;
           words_are = set-get_or s.words 2 0 ∙ r.words_are;
           homes_are = ap (λ (hs : List (maybe.Option (Option B))). set hs 0 none) r.homes_are;
-          order = subst (λ (z : ℕ). Order lines frame fixed r.count r.tickets r.serving r.callers none (set s.views id (holding z (lines b) me.0))) (sym now) f.6;
+          order = subst (λ (z : ℕ). Order lines frame fixed r.count r.tickets r.serving r.callers none (set s.views id (finding z (lines b) me.0))) (sym now) f.3;
         },
         λ t' e. let same : t ≡ t' = ap waits_for (sym waits ∙ e) in (
           (λ ne. absurd (ne (sym same ∙ hit))),
-          λ _. (
-            b,
-            ap (λ (z : ℕ). (holding z (lines b) me.0, (0, Some b) ∷ me.1)) same,
-            f.2,
-            subst (λ (z : ℕ). me.0.past ≤ z) (sym now ∙ same) f.3,
-            f.4,
-            subst (λ (z : ℕ). Rises 0 (lines b) z) (sym now ∙ same) f.5,
-          ),
+          λ _. (b, ap (λ (z : ℕ). (finding z (lines b) me.0, (0, Some b) ∷ me.1)) same, f.2),
         ),
       ))
       (λ miss. (me.0, keeps, tt, unmoved s r 2 id me at, λ t' e. let same : t ≡ t' = ap waits_for (sym waits ∙ e) in ((λ _. refl), λ hit. absurd (miss (same ∙ hit)))))
+
+  pub may_learn : (slots id : ℕ) (me : M) (t : ℕ) (ls : List Line) → me.0.stage ≡ Found t ls → Allows Rule slots id me 0 (λ x. x) (learned (step slots 0 0 0 none) me)
+  may_learn slots id me t ls finds_ s r _ at small = let learn = learns lines frame fixed r.count r.tickets r.serving r.callers r.home s.views r.order id me.0 at in (
+    holding t ls me.0,
+    keeps,
+    tt,
+    record {
+      count = r.count;
+      tickets = r.tickets;
+      serving = r.serving;
+      callers = r.callers;
+      home = r.home;
+      words_are = set-get_or s.words 0 0 ∙ r.words_are;
+      homes_are = r.homes_are;
+      order = (learn t ls finds_).3;
+    },
+    λ t' ls' e. let same : t ≡ t' = ap found_at (sym finds_ ∙ e) in let seen : ls ≡ ls' = ap found_seen (sym finds_ ∙ e) in let q = learn t' ls' e in ((λ i. (holding (same i) (seen i) me.0, me.1)), q.0, q.1, q.2),
+  )
 
   pub may_record : (slots id : ℕ) (me : M) (t : ℕ) (b : B) (l : Line) → me.0.stage ≡ Holds t → me.1 ≡ (0, Some b) ∷ [] → lines b ≡ me.0.seen ++ l ∷ [] → l.ticket ≡ t → l.caller ≡ me.0.caller
       → Allows Rule slots id me 0 (λ x. (x + 1) % 2 ^ 64) (recorded lines (step slots 0 1 0 none) me)
@@ -141,10 +159,10 @@ module _ {B : Type 0} (lines : B → List Line) (frame : B → Frame) (fixed : F
         λ t' b' holds' hand'. let same : t ≡ t' = ap holds_of (sym holds ∙ holds') in let one : b ≡ b' = ap (in_hand b) (sym hand ∙ hand') in λ i. (having_recorded (same i) (lines (one i)) me.0, me.1),
       )
 
-  pub may_pass_on : (slots id : ℕ) (me : M) (t : ℕ) (b : B) → in_turn me.0.stage ≡ true → HasTicket t me.0 → me.1 ≡ (0, Some b) ∷ [] → lines b ≡ me.0.seen → frame b ≡ me.0.frame
+  pub may_pass_on : (slots id : ℕ) (me : M) (t : ℕ) (b : B) → has_learned me.0.stage ≡ true → HasTicket t me.0 → me.1 ≡ (0, Some b) ∷ [] → lines b ≡ me.0.seen → frame b ≡ me.0.frame
       → Allows Rule slots id me 2 (λ x. (x + 1) % 2 ^ 64) (passed_on (step slots 2 1 0 none) me)
-  may_pass_on slots id me t b turn ticket hand seen framed s r _ at small = let x : ℕ = get_or s.words 2 0 in let is : x ≡ r.serving = ap (λ (ws : List ℕ). get_or ws 2 0) r.words_are in
-      let q = passes lines frame fixed r.count r.tickets r.serving r.callers r.home s.views r.order id me.0 at t b turn ticket seen framed in let room = q.0 in
+  may_pass_on slots id me t b learns_ ticket hand seen framed s r _ at small = let x : ℕ = get_or s.words 2 0 in let is : x ≡ r.serving = ap (λ (ws : List ℕ). get_or ws 2 0) r.words_are in
+      let q = passes lines frame fixed r.count r.tickets r.serving r.callers r.home s.views r.order id me.0 at t b learns_ ticket seen framed in let room = q.0 in
       let y : ℕ = (x + 1) % 18446744073709551616 in let next : y ≡ suc r.serving = omega arith in (
         gone_by t me.0,
         gives,
@@ -186,9 +204,12 @@ module _ {B : Type 0} (lines : B → List Line) (frame : B → Frame) (fixed : F
         drawn = λ t e. absurd (none_some t e);
         served = λ t e _. absurd (off e);
         whole = λ e. absurd (off e);
+        found = λ e. absurd (off e);
         promised = λ m e. absurd (none_some m e);
         joined = (omega arith, Follows-first []);
       };
+      longest = (0, newcomer fixed, refl, (refl, refl));
+      away = only (λ u. in_turn u.stage ≡ true → some (Some b) ≡ none) (newcomer fixed) (λ e. absurd (off e));
       one_holder = λ t. alone_one (HasTicket t) (newcomer fixed);
       held = λ t low high. absurd (omega arith);
       one_caller = λ n. alone_one (HasNumber n) (newcomer fixed);

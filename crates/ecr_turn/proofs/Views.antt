@@ -5,8 +5,9 @@ use lib.ListN.{get_elem?}
 use Rattle.atomic_table.proofs.Lists.{at_set, at_longer}
 use Rattle.ecr_turn.specs.declared.board.View.{View}
 use Rattle.ecr_turn.specs.declared.board.Stage.{Stage}
-use Rattle.ecr_turn.specs.declared.board.Stage.TheVariants.{Idle, Waits, Holds, Recorded, Named, Joined, Spent}
-use Rattle.ecr_turn.specs.Rule.{ticket_of, in_turn, has_recorded, NoneOf, One}
+use Rattle.ecr_turn.specs.declared.board.Stage.TheVariants.{Idle, Waits, Found, Holds, Recorded, Named, Joined, Spent}
+use Rattle.ecr_turn.specs.Turns.{ticket_of, in_turn, has_learned, is_found, has_recorded, One}
+use Rattle.ecr_turn.specs.Rule.{NoneOf}
 
 pub off : false ≡ true → ⊥
 off e = true≢false (sym e)
@@ -32,15 +33,37 @@ none_some a e = off (ap is_some e)
 pub turn_ticket : (s : Stage) → in_turn s ≡ true → (t : ℕ) × (ticket_of s ≡ Some t)
 turn_ticket Idle e = absurd (off e)
 turn_ticket (Waits t) e = absurd (off e)
+turn_ticket (Found t ls) e = (t, refl)
 turn_ticket (Holds t) e = (t, refl)
 turn_ticket (Recorded t) e = (t, refl)
 turn_ticket (Named n) e = absurd (off e)
 turn_ticket (Joined p ls) e = absurd (off e)
 turn_ticket Spent e = absurd (off e)
 
+pub learned_turn : (s : Stage) → has_learned s ≡ true → in_turn s ≡ true
+learned_turn Idle e = absurd (off e)
+learned_turn (Waits t) e = absurd (off e)
+learned_turn (Found t ls) e = refl
+learned_turn (Holds t) e = refl
+learned_turn (Recorded t) e = refl
+learned_turn (Named n) e = absurd (off e)
+learned_turn (Joined p ls) e = absurd (off e)
+learned_turn Spent e = absurd (off e)
+
+pub found_turn : (s : Stage) → is_found s ≡ true → in_turn s ≡ true
+found_turn Idle e = absurd (off e)
+found_turn (Waits t) e = absurd (off e)
+found_turn (Found t ls) e = refl
+found_turn (Holds t) e = refl
+found_turn (Recorded t) e = refl
+found_turn (Named n) e = absurd (off e)
+found_turn (Joined p ls) e = absurd (off e)
+found_turn Spent e = absurd (off e)
+
 pub recorded_turn : (s : Stage) → in_turn s ≡ false → has_recorded s ≡ false
 recorded_turn Idle e = refl
 recorded_turn (Waits t) e = refl
+recorded_turn (Found t ls) e = refl
 recorded_turn (Holds t) e = refl
 recorded_turn (Recorded t) e = absurd (off (sym e))
 recorded_turn (Named n) e = refl

@@ -4,10 +4,11 @@ use Rattle.atomic_table.specs.Table.{Me, Step}
 use Rattle.ecr_model.specs.declared.journal.Line.{Line}
 use Rattle.ecr_model.specs.declared.journal.Frame.{Frame}
 use Rattle.ecr_turn.specs.declared.board.View.{View}
-use Rattle.ecr_turn.specs.declared.board.Stage.TheVariants.{Idle, Waits, Holds, Recorded, Named, Joined, Spent}
+use Rattle.ecr_turn.specs.declared.board.Stage.TheVariants.{Idle, Waits, Found, Holds, Recorded, Named, Joined, Spent}
 use Rattle.ecr_turn.specs.declared.board.Stage.{Stage}
-use Rattle.ecr_model.specs.declared.journal.CellKey.TheVariants.{Directory}
-use Rattle.ecr_turn.specs.Rule.{Each, Grows, Follows, Rises, HasTicket, joined_past, joined_seen}
+use Rattle.ecr_turn.specs.Journals.{Each, Grows, Follows, Rises, longer_of}
+use Rattle.ecr_turn.specs.Turns.{HasTicket, joined_past, joined_seen}
+use Rattle.ecr_turn.specs.Passes.{no_frame}
 
 -- what the one who makes a step knows of itself
 abbrev Mine : Type 0 → Type 0
@@ -21,6 +22,10 @@ At B = Step (Option B)
 abbrev pub waiting : ℕ → View → View
 waiting t v = record { stage = Waits t; caller = v.caller; past = v.past; seen = v.seen; frame = v.frame }
 
+-- it is in its turn, and is to look at the journal
+abbrev pub finding : ℕ → List Line → View → View
+finding t log v = record { stage = Found t log; caller = v.caller; past = v.past; seen = v.seen; frame = v.frame }
+
 -- it is in its turn, and has seen the journal
 abbrev pub holding : ℕ → List Line → View → View
 holding t log v = record { stage = Holds t; caller = v.caller; past = v.past; seen = log; frame = v.frame }
@@ -32,12 +37,6 @@ having_recorded t log v = record { stage = Recorded t; caller = v.caller; past =
 -- its turn was passed on
 abbrev pub gone_by : ℕ → View → View
 gone_by t v = record { stage = Idle; caller = v.caller; past = suc t; seen = v.seen; frame = v.frame }
-
--- the longer of two journals of which one is a beginning of the other
-abbrev pub longer_of : List Line → List Line → List Line
-longer_of [] ys = ys
-longer_of (x ∷ xs) [] = x ∷ xs
-longer_of (x ∷ xs) (y ∷ ys) = x ∷ longer_of xs ys
 
 -- the number of the caller that was named
 abbrev pub number_of : Stage → ℕ
@@ -59,10 +58,6 @@ newborn v = record { stage = Idle; caller = number_of v.stage; past = v.past; se
 -- a pass to which another was joined
 abbrev pub joining : View → View → View
 joining v w = record { stage = Joined w.past w.seen; caller = v.caller; past = v.past; seen = v.seen; frame = v.frame }
-
--- a frame of nothing
-abbrev pub no_frame : Frame
-no_frame = record { cell = Directory (record { region = []; account = [] }); served = []; limits = record { names = 0; images = 0; tags = 0; parts = 0; bytes = 0 } }
 
 -- a pass that was joined to another
 abbrev pub spent : View
@@ -88,7 +83,11 @@ module _ {B : Type 0} where
   -- the turn is found where the number served is the ticket
   abbrev pub looked : (B → List Line) → (B → Frame) → At B → Mine B → ℕ → Mine B → Type 0
   looked lines frame st m r m' = (t : ℕ) → m.0.stage ≡ Waits t → (t ≢ r → m' ≡ m)
-      × (t ≡ r → (b : B) × (m' ≡ (holding t (lines b) m.0, (0, Some b) ∷ m.1)) × (frame b ≡ m.0.frame) × (m.0.past ≤ t) × Grows m.0.caller m.0.past m.0.seen (lines b) × Rises 0 (lines b) t)
+      × (t ≡ r → (b : B) × (m' ≡ (finding t (lines b) m.0, (0, Some b) ∷ m.1)) × (frame b ≡ m.0.frame))
+
+  -- the journal of the state that was found is seen
+  abbrev pub learned : At B → Mine B → ℕ → Mine B → Type 0
+  learned st m r m' = (t : ℕ) (ls : List Line) → m.0.stage ≡ Found t ls → (m' ≡ (holding t ls m.0, m.1)) × (m.0.past ≤ t) × Grows m.0.caller m.0.past m.0.seen ls × Rises 0 ls t
 
   -- the entry is counted, and the journal seen
   abbrev pub recorded : (B → List Line) → At B → Mine B → ℕ → Mine B → Type 0

@@ -14,6 +14,8 @@ pub enum Stage {
     Idle,
     /// It has drawn the ticket.
     Waits(u64),
+    /// It is in the ticket's turn, and hasn't looked at this journal of the state yet.
+    Found(u64, LinkedList<Line>),
     /// It is in the ticket's turn.
     Holds(u64),
     /// It is in the ticket's turn, and its entry is counted.

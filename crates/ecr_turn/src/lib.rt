@@ -2,17 +2,23 @@
 //!
 //! A [`Turnstile`] holds a state with a journal. A thread enters with its [`Pass`], waits for its turn, and leaves
 //! with the pass again. The pass knows the entries that it has seen, and that others added what came later.
-//! Nothing is said of fairness, of deadlock or of time.
+//! `specs/Turns.antt` has the rule, in seven points. Nothing is said of fairness, of deadlock or of time.
 #![tactic(auto)]
 
 mod board;
 mod change;
 mod journal;
+mod laws;
 mod plays;
+mod register;
+mod steps;
 #[cfg(test)]
 mod tests;
 mod turnstile;
 
 pub use board::{Stage, View};
 pub use journal::Journal;
+pub use laws::{
+    a_turn_adds_its_own, others_add_none_of_mine, the_rule_is_the_seven_points, what_stood_stays,
+};
 pub use turnstile::{Pass, Turn, Turnstile};

@@ -1,5 +1,5 @@
 // What each step tells the one who makes it.
-ghost use Rattle.ecr_turn.specs.Steps.{drew, looked, recorded, passed_on, named, took_in, settled, newborn, joining, spent};
+ghost use Rattle.ecr_turn.specs.Steps.{drew, looked, learned, recorded, passed_on, named, took_in, settled, newborn, joining, spent};
 
 use crate::board::View;
 use crate::journal::Journal;
@@ -21,6 +21,13 @@ pub struct Look<S> {
 
 impl<S: Journal> Play<Option<Box<S, Global>>, View> for Look<S> {
     ghost then = { looked (λ b. S.lines b.value) (λ b. S.frame b.value) };
+}
+
+/// The journal of the state that was found is looked at.
+pub struct Learn;
+
+impl<S> Play<Option<Box<S, Global>>, View> for Learn {
+    ghost then = { learned };
 }
 
 /// An entry is counted.

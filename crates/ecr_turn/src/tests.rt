@@ -1,12 +1,15 @@
-ghost use Rattle.std.specs.Prelude.{◌≡◌};
-ghost use Rattle.ecr_turn.specs.Steps.{no_frame};
-ghost use Rattle.ecr_turn.specs.Passes.{MayFollow};
+ghost use Rattle.std.specs.Prelude.{◌≡◌, [], IfOk};
+ghost use Rattle.ecr_turn.specs.Journals.{MayFollow};
+ghost use Rattle.ecr_turn.specs.Passes.{no_frame};
 
+use crate::register::{Register, get, set};
 use crate::{Journal, Pass, Turnstile};
-use ecr_model::{Entry, Line};
+use ecr_model::{Entry, Line, Mem};
+use std::alloc::Global;
 use std::sync::Wait;
 use std::test::Fail;
 use std::thread;
+use std::thread::Threads;
 
 // A state that is nothing but its journal.
 #[derive(Drop)]
@@ -35,10 +38,21 @@ impl Log {
     }
 }
 
+// A turnstile with room for so many entries, and its first pass.
+fn made(alloc: Global, entries: usize) -> Result<(Turnstile<Log>, Pass<Log>), Mem>
+    ensures { IfOk result (λ r. r.1.gate ≡ r.0) }
+{
+    let lines = Vec::with_capacity(alloc, entries)?;
+    match Turnstile::new(alloc, Log { lines }) {
+        Ok(made) => Ok(made),
+        Err(_) => Err(Mem),
+    }
+}
+
 // One turn, with one entry.
 fn one_turn<R: Wait>(rt: &R, turnstile: &Turnstile<Log>, pass: Pass<Log>) -> Pass<Log>
-    requires { pass.seat.table_id ≡ turnstile.now.board.shared.table_id }
-    ensures { result.seat.table_id ≡ turnstile.now.board.shared.table_id }
+    requires { pass.gate ≡ turnstile.now }
+    ensures { result.gate ≡ turnstile.now }
 {
     let caller = pass.caller();
     let mut turn = turnstile.enter(rt, pass);
@@ -52,15 +66,33 @@ fn one_turn<R: Wait>(rt: &R, turnstile: &Turnstile<Log>, pass: Pass<Log>) -> Pas
     turn.leave()
 }
 
-fn thousand_turns<R: Wait>(rt: &R, turnstile: &Turnstile<Log>, pass: Pass<Log>) -> Pass<Log>
-    requires { pass.seat.table_id ≡ turnstile.now.board.shared.table_id }
-    ensures { result.seat.table_id ≡ turnstile.now.board.shared.table_id }
+fn some_turns<R: Wait>(rt: &R, turnstile: &Turnstile<Log>, pass: Pass<Log>, turns: u32) -> Pass<Log>
+    requires { pass.gate ≡ turnstile.now }
+    ensures { result.gate ≡ turnstile.now }
 {
     let mut pass = pass;
-    for _ in 0..1000 {
+    for _ in 0..turns {
         pass = one_turn(rt, turnstile, pass);
     }
     pass
+}
+
+// Two threads, with so many turns each.
+fn two_threads<R: Threads + Wait + Sync>(
+    rt: &R,
+    turnstile: &Turnstile<Log>,
+    first: Pass<Log>,
+    second: Pass<Log>,
+    turns: u32,
+) -> (Pass<Log>, Pass<Log>)
+    requires { (first.gate ≡ turnstile.now) × (second.gate ≡ turnstile.now) }
+    ensures { (result.0.gate ≡ turnstile.now) × (result.1.gate ≡ turnstile.now) }
+{
+    thread::join(
+        rt,
+        move || some_turns(rt, turnstile, first, turns),
+        move || some_turns(rt, turnstile, second, turns),
+    )
 }
 
 // How many entries are of this caller, if their tickets rise.
@@ -79,32 +111,135 @@ fn in_order(lines: &[Line], caller: u64) -> u64 {
     count
 }
 
-#[test]
-fn two_threads_enter_each_turn_once(rt: HostRuntime) -> Result<(), Fail> {
-    let lines = Vec::with_capacity(rt.alloc(), 2000)?;
-    let Ok((turnstile, mut first)) = Turnstile::new(rt.alloc(), Log { lines }) else {
-        return Ok(());
-    };
-    let Ok(second) = turnstile.split(&rt, &mut first) else {
-        return Ok(());
-    };
-    let (one, two) = (first.caller(), second.caller());
-    let host = &rt;
-    let here = &turnstile;
-    let (mut first, second) = thread::join(
-        host,
-        move || thousand_turns(host, here, first),
-        move || thousand_turns(host, here, second),
-    );
-    turnstile.join(&mut first, second);
-    let turn = turnstile.enter(&rt, first);
-    let (all, ones, twos) = {
+// How many entries there are, and how many of each of two callers.
+fn counts<R: Wait>(
+    rt: &R,
+    turnstile: &Turnstile<Log>,
+    pass: Pass<Log>,
+    callers: (u64, u64),
+) -> (u64, u64, u64)
+    requires { pass.gate ≡ turnstile.now }
+{
+    let turn = turnstile.enter(rt, pass);
+    let found = {
         let lines = turn.value().lines.as_slice();
-        (lines.len(), in_order(lines, one), in_order(lines, two))
+        (
+            lines.len() as u64,
+            in_order(lines, callers.0),
+            in_order(lines, callers.1),
+        )
     };
     let _last = turn.leave();
+    found
+}
+
+#[test]
+fn two_threads_enter_each_turn_once(rt: HostRuntime) -> Result<(), Fail> {
+    let (turnstile, mut first) = made(rt.alloc(), 2000)?;
+    let second = turnstile.split(&rt, &mut first)?;
+    let callers = (first.caller(), second.caller());
+    let (mut first, second) = two_threads(&rt, &turnstile, first, second, 1000);
+    turnstile.join(&mut first, second);
+    let (all, ones, twos) = counts(&rt, &turnstile, first, callers);
     assert!(rt; all == 2000);
     assert!(rt; ones == 1000);
     assert!(rt; twos == 1000);
+    Ok(())
+}
+
+// A pass and another that is split off.
+fn pair<R: Wait>(
+    rt: &R,
+    turnstile: &Turnstile<Log>,
+    pass: Pass<Log>,
+) -> Result<(Pass<Log>, Pass<Log>), Mem>
+    requires { pass.gate ≡ turnstile.now }
+    ensures { IfOk result (λ r. (r.0.gate ≡ turnstile.now) × (r.1.gate ≡ turnstile.now)) }
+{
+    let mut first = pass;
+    let second = turnstile.split(rt, &mut first)?;
+    Ok((first, second))
+}
+
+// Four threads, with 100 turns each.
+fn four_threads<R: Threads + Wait + Sync>(
+    rt: &R,
+    turnstile: &Turnstile<Log>,
+    one: (Pass<Log>, Pass<Log>),
+    other: (Pass<Log>, Pass<Log>),
+) -> Pass<Log>
+    requires one { (one.0.gate ≡ turnstile.now) × (one.1.gate ≡ turnstile.now) }
+    requires other { (other.0.gate ≡ turnstile.now) × (other.1.gate ≡ turnstile.now) }
+    ensures { result.gate ≡ turnstile.now }
+{
+    let (first, second) = one;
+    let (third, fourth) = other;
+    let ((mut first, second), (third, fourth)) = thread::join(
+        rt,
+        move || -> (Pass<Log>, Pass<Log>)
+            requires { (first.gate ≡ turnstile.now) × (second.gate ≡ turnstile.now) }
+            ensures { (result.0.gate ≡ turnstile.entry.now) × (result.1.gate ≡ turnstile.entry.now) }
+        { two_threads(rt, turnstile, first, second, 100) },
+        move || -> (Pass<Log>, Pass<Log>)
+            requires { (third.gate ≡ turnstile.now) × (fourth.gate ≡ turnstile.now) }
+            ensures { (result.0.gate ≡ turnstile.entry.now) × (result.1.gate ≡ turnstile.entry.now) }
+        { two_threads(rt, turnstile, third, fourth, 100) },
+    );
+    turnstile.join(&mut first, second);
+    turnstile.join(&mut first, third);
+    turnstile.join(&mut first, fourth);
+    first
+}
+
+// A turnstile of four threads: how many entries there are, and how many of the first two callers.
+fn one_turnstile<R: Threads + Wait + Sync>(rt: &R, alloc: Global) -> Result<(u64, u64, u64), Mem> {
+    let (turnstile, first) = made(alloc, 400)?;
+    let (first, third) = pair(rt, &turnstile, first)?;
+    let callers = (first.caller(), third.caller());
+    let one = pair(rt, &turnstile, first)?;
+    let other = pair(rt, &turnstile, third)?;
+    let pass = four_threads(rt, &turnstile, one, other);
+    Ok(counts(rt, &turnstile, pass, callers))
+}
+
+// Two turnstiles beside each other.
+fn two_turnstiles<R: Threads + Wait + Sync>(
+    rt: &R,
+    alloc: Global,
+) -> Result<[(u64, u64, u64); 2], Mem> {
+    let (one, other) = thread::join(
+        rt,
+        move || one_turnstile(rt, alloc),
+        move || one_turnstile(rt, alloc),
+    );
+    Ok([one?, other?])
+}
+
+#[test]
+fn sixteen_threads_enter_four_turnstiles(rt: HostRuntime) -> Result<(), Fail> {
+    let host = &rt;
+    let alloc = rt.alloc();
+    let (one, other) = thread::join(
+        host,
+        move || two_turnstiles(host, alloc),
+        move || two_turnstiles(host, alloc),
+    );
+    assert!(rt; one? == [(400, 100, 100); 2]);
+    assert!(rt; other? == [(400, 100, 100); 2]);
+    Ok(())
+}
+
+#[test]
+fn a_register_answers_what_was_set_last(rt: HostRuntime) -> Result<(), Fail> {
+    let Ok((turnstile, pass)) = Turnstile::new(rt.alloc(), Register::new(rt.alloc())) else {
+        return Err(Mem.into());
+    };
+    let (before, _, pass) = get(&rt, &turnstile, pass);
+    let (done, pass) = set(&rt, &turnstile, pass, 7);
+    done?;
+    let (after, ticket, _last) = get(&rt, &turnstile, pass);
+    assert!(rt; before == 0);
+    assert!(rt; after == 7);
+    assert!(rt; ticket == 2);
     Ok(())
 }

@@ -1,95 +1,94 @@
 // Entering, and leaving.
-ghost use Rattle.std.specs.Prelude.{◌≡◌, ◌≤◌, ◌+◌, ◌≢◌, max, [], ◌∷◌, ◌++◌, IfOk, IfErr, length, None, Some, Bool, true, false};
-ghost use Rattle.ecr_turn.specs.declared.board.Stage.TheVariants.{Idle, Waits, Holds};
-ghost use Rattle.ecr_turn.specs.Rule.{Each, Grows, Follows, Rises};
-ghost use Rattle.ecr_turn.specs.Steps.{waiting, holding, naming};
-ghost use Rattle.ecr_turn.specs.Passes.{Lone, MayFollow, caller_of, past_of, seen_of, frame_of, IsIdle, IsSamePass, IsBack, Finds, Sees, IsSettled, IsAsWise};
+ghost use Rattle.std.specs.Prelude.{◌≡◌, ◌≤◌, ◌+◌, ◌≢◌, ◌⊎◌, max, [], ◌∷◌, IfOk, IfErr, length, None};
+ghost use Rattle.ecr_turn.specs.declared.board.Stage.TheVariants.{Holds};
+ghost use Rattle.ecr_turn.specs.Journals.{Each, Grows, Follows, Rises, MayFollow, IsBeginning, longer_of};
+ghost use Rattle.ecr_turn.specs.Passes.{first_pass, IsSamePass, IsAsWise};
+ghost use Rattle.ecr_turn.specs.Seats.{known_of};
 
 use crate::board::{Board, Place};
 use crate::journal::Journal;
-use crate::plays::{Draw, Fork, Glue, Look, Name, PassOn, Record, TakeIn};
+use crate::steps::{absorb, draw, fork, one_slot, out_of_slot, pass_on, take};
 use atomic_table::{Refused, Table};
 use ecr_model::Mem;
-use std::alloc::{AllocFailed, Global};
+use std::alloc::Global;
+use std::marker::Model;
 use std::snapshot::Snapshot;
 use std::sync::Wait;
-use std::thread::yield_now;
 
-/// A state that is entered in turns.
+/// A state that is entered in turns. Contracts see which one it is, and what is fixed throughout its journal.
 #[derive(Drop)]
 pub struct Turnstile<S: Journal> {
     board: Board<S>,
-    ghost sized: { (board.shared.table_id.words ≡ 4) × (board.shared.table_id.slots ≡ 1) },
 }
 
-/// The right to enter one turnstile, and what its holder has seen there.
+impl<S: Journal> Model for Turnstile<S> {
+    ghost use Rattle.std.specs.Prelude.{◌≡◌};
+    ghost use Rattle.ecr_turn.specs.Passes.{Gate};
+
+    ghost Value = { Gate };
+
+    ghost view = { λ t. record { table = t.board.shared.table_id; frame = S.frame t.board.shared.key.value } };
+
+    ghost invariant = { λ t. t.board.shared.table_id.words ≡ 4 };
+}
+
+/// The right to enter one turnstile. Contracts see what its holder knows: the turnstile, the number of its caller, one
+/// more than the last ticket that it knows to be passed on, and the journal that it has seen.
 #[derive(Drop)]
 pub struct Pass<S: Journal> {
     seat: Place<S>,
     caller: u64,
-    ghost idle: { IsIdle seat },
-    ghost numbered: { caller ≡ caller_of seat },
+}
+
+impl<S: Journal> Model for Pass<S> {
+    ghost use Rattle.std.specs.Prelude.{◌≡◌};
+    ghost use Rattle.ecr_turn.specs.Passes.{Known};
+
+    ghost Value = { Known };
+
+    ghost use Rattle.ecr_turn.specs.Seats.{known_of, IsIdle};
+
+    ghost view = { λ p. known_of p.seat };
+
+    ghost invariant = { λ p. IsIdle p.seat × (p.caller ≡ p.seat.me.0.caller) };
 }
 
 // What a turn keeps beside the state.
 struct Held<'a, S: Journal> {
-    turnstile: &'a Turnstile<S>,
+    board: &'a Board<S>,
     seat: Place<S>,
     ticket: u64,
     caller: u64,
     count: u64,
-    ghost numbered: { caller ≡ caller_of seat },
-    ghost of: { seat.table_id ≡ turnstile.now.board.shared.table_id },
+    ghost numbered: { caller ≡ seat.me.0.caller },
+    ghost of: { (seat.table_id ≡ board.now.shared.table_id) × (board.now.shared.table_id.words ≡ 4) },
     ghost holds: { seat.me.0.stage ≡ Holds ticket },
     ghost hand: { seat.me.1 ≡ (0, None) ∷ [] },
     ghost counted: { count ≡ length seat.me.0.seen },
 }
 
-/// A turn: the state, until [`Turn::leave`].
+/// A turn, until [`Turn::leave`]. Contracts see its pass, its ticket and the state.
 pub struct Turn<'a, S: Journal> {
     held: Held<'a, S>,
     pub(crate) state: Box<S, Global>,
 }
 
-// The state in a list of its own.
-fn one_slot<S>(alloc: Global, state: S) -> Result<Vec<Option<Box<S, Global>>>, (S, Mem)>
-    ensures ok { IfOk result (λ v. Lone (λ b. b.value ≡ state) v.items) }
-    ensures err { IfErr result (λ e. e.0 ≡ state) }
-{
-    let mut slots: Vec<Option<Box<S, Global>>> = Vec::new(alloc);
-    match Box::new(alloc, state) {
-        Ok(state) => match slots.push(Some(state)) {
-            Ok(()) => Ok(slots),
-            Err(failed) => {
-                let AllocFailed { value } = failed;
-                slots.destroy_empty();
-                Err((Box::into_inner(value.unwrap()), Mem))
-            }
-        },
-        Err(failed) => {
-            let AllocFailed { value } = failed;
-            slots.destroy_empty();
-            Err((value, Mem))
-        }
-    }
-}
+impl<'a, S: Journal> Model for Turn<'a, S> {
+    ghost use Rattle.ecr_turn.specs.Passes.{TurnOf};
 
-// The state out of that list.
-fn out_of_slot<S>(mut slots: Vec<Option<Box<S, Global>>>) -> S
-    requires { Lone (λ b. Unit {0}) slots.items }
-    ensures { Lone (λ b. b.value ≡ result) slots.items }
-{
-    let state = slots.pop().unwrap().unwrap();
-    slots.destroy_empty();
-    Box::into_inner(state)
+    ghost Value = { TurnOf S };
+
+    ghost use Rattle.ecr_turn.specs.Seats.{known_of};
+
+    ghost view = { λ t. record { pass = known_of t.held.seat; ticket = t.held.ticket; state = t.state.value } };
 }
 
 impl<S: Journal> Turnstile<S> {
     /// A turnstile with this state, whose journal is empty, and its first pass.
     pub fn new(alloc: Global, state: S) -> Result<(Turnstile<S>, Pass<S>), (S, Mem)>
         requires { S.lines state ≡ [] }
-        ensures of { IfOk result (λ r. r.1.seat.table_id ≡ r.0.board.shared.table_id) }
-        ensures pass { IfOk result (λ r. (caller_of r.1.seat ≡ 0) × (past_of r.1.seat ≡ 0) × (seen_of r.1.seat ≡ []) × (frame_of r.1.seat ≡ S.frame state)) }
+        ensures frame { IfOk result (λ r. r.0.frame ≡ S.frame state) }
+        ensures pass { IfOk result (λ r. r.1 ≡ first_pass r.0) }
         ensures err { IfErr result (λ e. e.0 ≡ state) }
     {
         let about = Snapshot::of(&state);
@@ -106,56 +105,23 @@ impl<S: Journal> Turnstile<S> {
         }
     }
 
-    fn draw<R: Wait>(&self, rt: &R, seat: &mut Place<S>) -> u64
-        requires { (seat.old.table_id ≡ self.now.board.shared.table_id) × (seat.old.me.0.stage ≡ Idle) }
-        ensures { (seat.new.table_id ≡ seat.old.table_id) × (seat.new.me ≡ (waiting result seat.old.me.0, seat.old.me.1)) }
-    {
-        for _ in rt.forever() {
-            let next = self.board.shared.peek(1);
-            if next < u64::MAX {
-                let shared = &self.board.shared;
-                let found = shared.compare_exchange::<Draw>(seat, 1, next, next + 1);
-                if found == next {
-                    return next;
-                }
-            }
-            yield_now();
-        }
-        unreachable!()
-    }
-
-    fn wait<R: Wait>(&self, rt: &R, seat: &mut Place<S>, ticket: u64)
-        requires { (seat.old.table_id ≡ self.now.board.shared.table_id) × (seat.old.me.0.stage ≡ Waits ticket) × (seat.old.me.1 ≡ []) }
-        ensures pass { seat.new.table_id ≡ seat.old.table_id }
-        ensures found { Finds (λ b. S.lines b.value) (λ b. S.frame b.value) seat.old seat.new ticket }
-    {
-        for _ in rt.forever() {
-            let served = self.board.shared.load::<Look<S>>(seat, 2);
-            if served == ticket {
-                return;
-            }
-            yield_now();
-        }
-        unreachable!()
-    }
-
     /// Waits for a turn. What the pass hasn't seen before is of others, and has no ticket below its `past`.
     pub fn enter<'a, R: Wait>(&'a self, rt: &R, pass: Pass<S>) -> Turn<'a, S>
-        requires { pass.seat.table_id ≡ self.now.board.shared.table_id }
-        ensures pass { IsSamePass pass.seat result.held.seat × (past_of result.held.seat ≡ past_of pass.seat) }
-        ensures frame { S.frame result.state.value ≡ frame_of pass.seat }
-        ensures fresh { past_of pass.seat ≤ result.held.ticket }
-        ensures seen { seen_of result.held.seat ≡ S.lines result.state.value }
-        ensures grows { Grows (caller_of pass.seat) (past_of pass.seat) (seen_of pass.seat) (S.lines result.state.value) }
-        ensures below { Rises 0 (S.lines result.state.value) result.held.ticket }
+        requires of { pass.gate ≡ self.now }
+        ensures pass { IsSamePass pass result.pass × (result.pass.past ≡ pass.past) }
+        ensures frame { S.frame result.state ≡ self.now.frame }
+        ensures fresh { pass.past ≤ result.ticket }
+        ensures seen { result.pass.seen ≡ S.lines result.state }
+        ensures grows { Grows pass.caller pass.past pass.seen (S.lines result.state) }
+        ensures below { Rises 0 (S.lines result.state) result.ticket }
     {
+        let board = &self.board;
         let Pass { mut seat, caller } = pass;
-        let ticket = self.draw(rt, &mut seat);
-        self.wait(rt, &mut seat, ticket);
-        let state = self.board.shared.exchange(&mut seat, 0, None).unwrap();
+        let ticket = draw(board, rt, &mut seat);
+        let state = take(board, rt, &mut seat, ticket);
         let count = state.entries();
         let held = Held {
-            turnstile: self,
+            board,
             seat,
             ticket,
             caller,
@@ -164,100 +130,37 @@ impl<S: Journal> Turnstile<S> {
         Turn { held, state }
     }
 
-    fn name<R: Wait>(&self, rt: &R, seat: &mut Place<S>) -> u64
-        requires { (seat.old.table_id ≡ self.now.board.shared.table_id) × (seat.old.me.0.stage ≡ Idle) }
-        ensures pass { (seat.new.table_id ≡ seat.old.table_id) × (seat.new.me ≡ (naming result seat.old.me.0, seat.old.me.1)) }
-        ensures new { (result ≢ caller_of seat.old) × Each (λ l. l.caller ≢ result) (seen_of seat.old) }
-    {
-        for _ in rt.forever() {
-            let next = self.board.shared.peek(3);
-            if next < u64::MAX {
-                let shared = &self.board.shared;
-                let found = shared.compare_exchange::<Name>(seat, 3, next, next + 1);
-                if found == next {
-                    return next;
-                }
-            }
-            yield_now();
-        }
-        unreachable!()
-    }
-
-    // A seat for the next caller, who is told what this one knows.
-    fn fork<R: Wait>(&self, rt: &R, seat: &mut Place<S>) -> (u64, Place<S>)
-        requires { (seat.old.table_id ≡ self.now.board.shared.table_id) × IsIdle seat.old }
-        ensures kept { IsSamePass seat.old seat.new × IsIdle seat.new × IsAsWise seat.old seat.new }
-        ensures given { (result.1.table_id ≡ seat.old.table_id) × (caller_of result.1 ≡ result.0) × (frame_of result.1 ≡ frame_of seat.old) × IsIdle result.1 × IsAsWise seat.old result.1 }
-        ensures new { (result.0 ≢ caller_of seat.old) × Each (λ l. l.caller ≢ result.0) (seen_of seat.old) }
-    {
-        let caller = self.name(rt, seat);
-        let other = self.board.shared.split_seat::<Fork>(seat);
-        (caller, other)
-    }
-
-    fn absorb(&self, seat: &mut Place<S>, other: Place<S>)
-        requires one { (seat.old.table_id ≡ self.now.board.shared.table_id) × IsIdle seat.old }
-        requires two { (other.table_id ≡ self.now.board.shared.table_id) × IsIdle other }
-        ensures pass { IsSamePass seat.old seat.new × IsIdle seat.new × (past_of seat.new ≡ max (past_of seat.old) (past_of other)) }
-        ensures grows { Grows (caller_of seat.old) (past_of seat.old) (seen_of seat.old) (seen_of seat.new) }
-        ensures follows { Follows (past_of other) (seen_of other) (seen_of seat.new) }
-    {
-        self.board.shared.join_seat::<Glue>(seat, other);
-        self.board.shared.load::<TakeIn>(seat, 0);
-    }
-
     /// A pass for another caller, who begins with what this one has seen. Its caller's number is neither this one's
     /// nor that of an entry which this one has seen.
     pub fn split<R: Wait>(&self, rt: &R, pass: &mut Pass<S>) -> Result<Pass<S>, Mem>
-        requires { pass.old.seat.table_id ≡ self.now.board.shared.table_id }
-        ensures kept { IsSamePass pass.old.seat pass.new.seat × IsAsWise pass.old.seat pass.new.seat }
-        ensures given { IfOk result (λ p. (p.seat.table_id ≡ pass.old.seat.table_id) × (frame_of p.seat ≡ frame_of pass.old.seat) × IsAsWise pass.old.seat p.seat) }
-        ensures new { IfOk result (λ p. (caller_of p.seat ≢ caller_of pass.old.seat) × Each (λ l. l.caller ≢ caller_of p.seat) (seen_of pass.old.seat)) }
+        requires of { pass.old.gate ≡ self.now }
+        ensures kept { pass.new ≡ pass.old }
+        ensures given { IfOk result (λ p. IsAsWise pass.old p) }
+        ensures new { IfOk result (λ p. (p.caller ≢ pass.old.caller) × Each (λ l. l.caller ≢ p.caller) pass.old.seen) }
     {
-        let (caller, seat) = self.fork(rt, &mut pass.seat);
+        let (caller, seat) = fork(&self.board, rt, &mut pass.seat);
         Ok(Pass { seat, caller })
     }
 
-    /// Takes in what another pass has seen: the pass has then seen a journal that begins with each of the two, and has
-    /// the greater `past`.
+    /// Takes in what another pass has seen: the pass has then seen the longer of the two journals, and has the greater
+    /// `past`.
     pub fn join(&self, pass: &mut Pass<S>, other: Pass<S>)
-        requires { (pass.old.seat.table_id ≡ self.now.board.shared.table_id) × (other.seat.table_id ≡ self.now.board.shared.table_id) }
-        ensures pass { IsSamePass pass.old.seat pass.new.seat × (past_of pass.new.seat ≡ max (past_of pass.old.seat) (past_of other.seat)) }
-        ensures grows { Grows (caller_of pass.old.seat) (past_of pass.old.seat) (seen_of pass.old.seat) (seen_of pass.new.seat) }
-        ensures follows { Follows (past_of other.seat) (seen_of other.seat) (seen_of pass.new.seat) }
+        requires of { (pass.old.gate ≡ self.now) × (other.gate ≡ self.now) }
+        ensures pass { IsSamePass pass.old pass.new × (pass.new.past ≡ max pass.old.past other.past) }
+        ensures seen { pass.new.seen ≡ longer_of pass.old.seen other.seen }
+        ensures ordered { IsBeginning pass.old.seen other.seen ⊎ IsBeginning other.seen pass.old.seen }
+        ensures grows { Grows pass.old.caller pass.old.past pass.old.seen pass.new.seen }
+        ensures follows { Follows other.past other.seen pass.new.seen }
     {
         let Pass { seat, caller: _ } = other;
-        self.absorb(&mut pass.seat, seat);
-    }
-
-    // The state is back in its slot: enters the entry that its journal grew by.
-    fn settle(&self, seat: &mut Place<S>, ticket: u64, grown: bool)
-        requires of { seat.old.table_id ≡ self.now.board.shared.table_id }
-        requires back { IsBack (λ b. S.lines b.value) (λ b. S.frame b.value) seat.old ticket grown }
-        ensures { IsSettled (λ b. S.lines b.value) (λ b. S.frame b.value) seat.old seat.new ticket }
-    {
-        if !grown {
-            return;
-        }
-        self.board.shared.fetch_add::<Record<S>>(seat, 0, 1);
-    }
-
-    // Gives the turn away.
-    fn pass_on(&self, seat: &mut Place<S>, ticket: u64, grown: bool)
-        requires of { seat.old.table_id ≡ self.now.board.shared.table_id }
-        requires back { IsBack (λ b. S.lines b.value) (λ b. S.frame b.value) seat.old ticket grown }
-        ensures pass { IsSamePass seat.old seat.new × IsIdle seat.new × (past_of seat.new ≡ ticket + 1) }
-        ensures seen { Sees (λ b. S.lines b.value) seat.old.me.1 (seen_of seat.new) }
-    {
-        self.settle(seat, ticket, grown);
-        self.board.shared.fetch_add::<PassOn>(seat, 2, 1);
+        absorb(&self.board, &mut pass.seat, seat);
     }
 }
 
 impl<S: Journal> Pass<S> {
     /// The number of its caller, by which the entries of its turns go.
     pub fn caller(&self) -> u64
-        ensures { result ≡ caller_of self.now.seat }
+        ensures { result ≡ self.now.caller }
     {
         self.caller
     }
@@ -266,37 +169,37 @@ impl<S: Journal> Pass<S> {
 impl<'a, S: Journal> Turn<'a, S> {
     /// The ticket, which is above those of all entries that the turn began with.
     pub fn ticket(&self) -> u64
-        ensures { result ≡ self.now.held.ticket }
+        ensures { result ≡ self.now.ticket }
     {
         self.held.ticket
     }
 
     /// The state.
     pub fn value(&self) -> &S
-        ensures { result.now ≡ self.now.state.value }
+        ensures { result.now ≡ self.now.state }
     {
         &self.state
     }
 
     /// Ends the turn, and gives the pass back.
     pub fn leave(self) -> Pass<S>
-        requires frame { S.frame self.state.value ≡ frame_of self.held.seat }
-        requires journal { MayFollow self.held.ticket (caller_of self.held.seat) (seen_of self.held.seat) (S.lines self.state.value) }
-        ensures pass { IsSamePass self.entry.held.seat result.seat × (past_of result.seat ≡ self.entry.held.ticket + 1) }
-        ensures seen { seen_of result.seat ≡ S.lines self.entry.state.value }
+        requires frame { S.frame self.state ≡ self.pass.gate.frame }
+        requires journal { MayFollow self.ticket self.pass.caller self.pass.seen (S.lines self.state) }
+        ensures pass { IsSamePass self.entry.pass result × (result.past ≡ self.entry.ticket + 1) }
+        ensures seen { result.seen ≡ S.lines self.entry.state }
     {
         let Turn { held, state } = self;
         let Held {
-            turnstile,
+            board,
             mut seat,
             ticket,
             caller,
             count,
         } = held;
         let grown = state.entries() != count;
-        let empty = turnstile.board.shared.exchange(&mut seat, 0, Some(state));
+        let empty = board.shared.exchange(&mut seat, 0, Some(state));
         let None = empty else { unreachable!() };
-        turnstile.pass_on(&mut seat, ticket, grown);
+        pass_on(board, &mut seat, ticket, grown);
         Pass { seat, caller }
     }
 }

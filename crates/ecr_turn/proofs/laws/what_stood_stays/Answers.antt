@@ -1,0 +1,5 @@
+use Rattle.ecr_turn.proofs.JournalLaws.{what_stood_stays}
+use Rattle.ecr_turn.proofs.laws.what_stood_stays.Goals as goal
+
+pub returns : goal.returns
+returns c = what_stood_stays

@@ -1,6 +1,0 @@
-use Rattle.std.proofs.Common.{rules, arith}
-use Rattle.std.proofs.lemmas.Grind.{common_steps}
-use Rattle.ecr_turn.proofs.turnstile.out_of_slot.Goals as goal
-
-pub returns : goal.returns
-returns g c = (c.requires.0, c.requires.1, (first_of (search rules, grind (arith, common_steps))))

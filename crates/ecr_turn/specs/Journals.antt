@@ -1,0 +1,52 @@
+-- Journals, and what others add to them. Of this registry: docs/DEFINITIONS.md, "Turns".
+use Rattle.std.specs.Prelude.{◌≡◌, ◌≢◌, ◌⊎◌, ℕ, suc, ◌≤◌, nat_lt, ◌==◌, List, [], ◌∷◌, ◌++◌, filter}
+use Rattle.ecr_model.specs.declared.journal.Line.{Line}
+
+-- each line of the journal has the property
+abbrev pub Each : (Line → Type 0) → List Line → Type 0
+Each P [] = Unit {0}
+Each P (l ∷ ls) = P l × Each P ls
+
+-- the tickets rise, from low on and below high
+abbrev pub Rises : ℕ → List Line → ℕ → Type 0
+Rises low [] high = low ≤ high
+Rises low (l ∷ ls) high = (low ≤ l.ticket) × Rises (suc l.ticket) ls high
+
+-- the later journal begins with the earlier one
+abbrev pub IsBeginning : List Line → List Line → Type 0
+IsBeginning before after = (news : List Line) × (after ≡ before ++ news)
+
+-- the later journal is the earlier one and news, of which each line has the property
+abbrev pub IsLonger : (Line → Type 0) → List Line → List Line → Type 0
+IsLonger P before after = (news : List Line) × (after ≡ before ++ news) × Each P news
+
+-- the later journal is the earlier one and news, of which none is of this caller and none has a ticket below `past`
+pub record Grows (caller past : ℕ) (before after : List Line) : Type 0 where
+  pub news : List Line
+  pub longer : after ≡ before ++ news
+  pub others : Each (λ l. l.caller ≢ caller) news
+  pub later : Each (λ l. past ≤ l.ticket) news
+
+-- the later journal is the earlier one and news, of which none has a ticket below `past`
+pub record Follows (past : ℕ) (before after : List Line) : Type 0 where
+  pub news : List Line
+  pub longer : after ≡ before ++ news
+  pub later : Each (λ l. past ≤ l.ticket) news
+
+-- the second journal is the first one, or longer by one entry of this ticket and caller
+abbrev pub MayFollow : ℕ → ℕ → List Line → List Line → Type 0
+MayFollow ticket caller before after = (after ≡ before) ⊎ ((l : Line) × (after ≡ before ++ l ∷ []) × (l.ticket ≡ ticket) × (l.caller ≡ caller))
+
+-- the longer of two journals of which one is a beginning of the other
+abbrev pub longer_of : List Line → List Line → List Line
+longer_of [] ys = ys
+longer_of (x ∷ xs) [] = x ∷ xs
+longer_of (x ∷ xs) (y ∷ ys) = x ∷ longer_of xs ys
+
+-- the lines whose tickets are below this one
+abbrev pub below : ℕ → List Line → List Line
+below ticket = filter (λ l. nat_lt l.ticket ticket)
+
+-- the lines of this caller
+abbrev pub of_caller : ℕ → List Line → List Line
+of_caller caller = filter (λ l. l.caller == caller)

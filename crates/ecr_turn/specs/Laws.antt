@@ -1,0 +1,38 @@
+-- Laws of turns and of journals.
+use Rattle.std.specs.Prelude.{◌≡◌, ◌⊎◌, ℕ, ◌≤◌, List, [], ◌∷◌, ◌++◌, Option}
+use mathlib.Core.Option as maybe
+use Rattle.atomic_table.specs.Table.{State}
+use Rattle.ecr_model.specs.declared.journal.Line.{Line}
+use Rattle.ecr_model.specs.declared.journal.Frame.{Frame}
+use Rattle.ecr_turn.specs.declared.board.View.{View}
+use Rattle.ecr_turn.specs.Journals.{Grows, Follows, MayFollow, below, of_caller}
+use Rattle.ecr_turn.specs.Turns.{Numbers, SevenPoints}
+use Rattle.ecr_turn.specs.Rule.{Kept}
+
+-- the table is that of a turnstile at these numbers, with these passes and this journal
+pub record Shows {B : Type 0} (lines : B → List Line) (frame : B → Frame) (fixed : Frame) (s : State (Option B) View) : Type 0 where
+  pub numbers : Numbers
+  pub home : maybe.Option (Option B)
+  pub journal : List Line
+  pub words_are : s.words ≡ numbers.entries ∷ numbers.tickets ∷ numbers.serving ∷ numbers.callers ∷ []
+  pub homes_are : s.homes ≡ home ∷ []
+  pub points : SevenPoints lines frame fixed numbers home s.views journal
+
+-- of each table that keeps its rule the seven points hold
+abbrev pub TheRuleIsTheSevenPoints : {B : Type 0} → (B → List Line) → (B → Frame) → Type 0
+TheRuleIsTheSevenPoints {B} lines frame = (fixed : Frame) (s : State (Option B) View) → Kept lines frame fixed s → Shows lines frame fixed s
+
+-- what stood below a ticket that was passed on stands there in each later journal
+abbrev pub WhatStoodStays : Type 0
+WhatStoodStays = (past ticket : ℕ) (before after : List Line) → Follows past before after → ticket ≤ past → below ticket after ≡ below ticket before
+
+-- what others add leaves a caller's own lines as they were
+abbrev pub OthersAddNoneOfMine : Type 0
+OthersAddNoneOfMine = (caller past : ℕ) (before after : List Line) → Grows caller past before after → of_caller caller after ≡ of_caller caller before
+
+-- a turn adds nothing to its caller's own lines, or its one entry at their end
+abbrev pub ATurnAddsItsOwn : Type 0
+ATurnAddsItsOwn =
+    (ticket caller : ℕ) (before after : List Line) → MayFollow ticket caller before after
+    → (of_caller caller after ≡ of_caller caller before)
+    ⊎ ((l : Line) × (after ≡ before ++ l ∷ []) × (l.ticket ≡ ticket) × (of_caller caller after ≡ of_caller caller before ++ l ∷ []))

@@ -1,0 +1,196 @@
+// The steps of a pass, on the table below a turnstile.
+ghost use Rattle.std.specs.Prelude.{◌≡◌, ◌≤◌, ◌+◌, ◌≢◌, ◌⊎◌, max, [], ◌∷◌, IfOk, IfErr, Some};
+ghost use Rattle.ecr_turn.specs.declared.board.Stage.TheVariants.{Idle, Waits};
+ghost use Rattle.ecr_turn.specs.Journals.{Each, Grows, Follows, IsBeginning, longer_of};
+ghost use Rattle.ecr_turn.specs.Steps.{waiting, naming};
+ghost use Rattle.ecr_turn.specs.Seats.{Lone, IsOf, IsIdle, IsSameSeat, IsBack, Finds, Takes, Sees, IsSettled, known_of};
+
+use crate::board::{Board, Place};
+use crate::journal::Journal;
+use crate::plays::{Draw, Fork, Glue, Learn, Look, Name, PassOn, Record, TakeIn};
+use ecr_model::Mem;
+use std::alloc::{AllocFailed, Global};
+use std::hint::spin_loop;
+use std::sync::Wait;
+use std::thread::yield_now;
+
+// How often a thread looks whether it is its turn before it lets others run.
+const SPINS: u32 = 64;
+
+// The state in a list of its own.
+pub(crate) fn one_slot<S>(alloc: Global, state: S) -> Result<Vec<Option<Box<S, Global>>>, (S, Mem)>
+    ensures ok { IfOk result (λ v. Lone (λ b. b.value ≡ state) v.items) }
+    ensures err { IfErr result (λ e. e.0 ≡ state) }
+{
+    let mut slots: Vec<Option<Box<S, Global>>> = Vec::new(alloc);
+    match Box::new(alloc, state) {
+        Ok(state) => match slots.push(Some(state)) {
+            Ok(()) => Ok(slots),
+            Err(failed) => {
+                let AllocFailed { value } = failed;
+                slots.destroy_empty();
+                Err((Box::into_inner(value.unwrap()), Mem))
+            }
+        },
+        Err(failed) => {
+            let AllocFailed { value } = failed;
+            slots.destroy_empty();
+            Err((value, Mem))
+        }
+    }
+}
+
+// The state out of that list.
+pub(crate) fn out_of_slot<S>(mut slots: Vec<Option<Box<S, Global>>>) -> S
+    requires { Lone (λ b. Unit {0}) slots.items }
+    ensures { Lone (λ b. b.value ≡ result) slots.items }
+{
+    let state = slots.pop().unwrap().unwrap();
+    slots.destroy_empty();
+    Box::into_inner(state)
+}
+
+// Draws a ticket, while none is out. Where callers queued up, each turn would have to go to one of their threads, which
+// with more threads than processors mostly isn't running.
+pub(crate) fn draw<S: Journal, R: Wait>(board: &Board<S>, rt: &R, seat: &mut Place<S>) -> u64
+    requires of { IsOf board.now.shared.table_id seat.old }
+    requires idle { seat.old.me.0.stage ≡ Idle }
+    ensures { (seat.new.table_id ≡ seat.old.table_id) × (seat.new.me ≡ (waiting result seat.old.me.0, seat.old.me.1)) }
+{
+    for _ in rt.forever() {
+        let next = board.shared.peek(1);
+        if next < u64::MAX && board.shared.peek(2) == next {
+            let shared = &board.shared;
+            let found = shared.compare_exchange::<Draw>(seat, 1, next, next + 1);
+            if found == next {
+                return next;
+            }
+        }
+        yield_now();
+    }
+    unreachable!()
+}
+
+// Some time passes, but for no longer than until the ticket is served.
+fn linger<S: Journal>(board: &Board<S>, ticket: u64)
+    requires { board.now.shared.table_id.words ≡ 4 }
+{
+    for _ in 0..SPINS {
+        if board.shared.peek(2) == ticket {
+            return;
+        }
+        spin_loop();
+    }
+    yield_now();
+}
+
+// Waits until the ticket is served.
+fn wait<S: Journal, R: Wait>(board: &Board<S>, rt: &R, seat: &mut Place<S>, ticket: u64)
+    requires of { IsOf board.now.shared.table_id seat.old }
+    requires waits { (seat.old.me.0.stage ≡ Waits ticket) × (seat.old.me.1 ≡ []) }
+    ensures pass { seat.new.table_id ≡ seat.old.table_id }
+    ensures found { Finds (λ b. S.lines b.value) (λ b. S.frame b.value) seat.old seat.new ticket }
+{
+    for _ in rt.forever() {
+        let served = board.shared.load::<Look<S>>(seat, 2);
+        if served == ticket {
+            return;
+        }
+        linger(board, ticket);
+    }
+    unreachable!()
+}
+
+// Waits until the ticket is served, takes the state, and looks at its journal.
+pub(crate) fn take<S: Journal, R: Wait>(
+    board: &Board<S>,
+    rt: &R,
+    seat: &mut Place<S>,
+    ticket: u64,
+) -> Box<S, Global>
+    requires of { IsOf board.now.shared.table_id seat.old }
+    requires waits { (seat.old.me.0.stage ≡ Waits ticket) × (seat.old.me.1 ≡ []) }
+    ensures pass { seat.new.table_id ≡ seat.old.table_id }
+    ensures taken { Takes (λ b. S.lines b.value) (λ b. S.frame b.value) seat.old seat.new ticket result }
+{
+    wait(board, rt, seat, ticket);
+    let state = board.shared.exchange(seat, 0, None).unwrap();
+    board.shared.load::<Learn>(seat, 0);
+    state
+}
+
+// Draws the number of a caller to come.
+fn name<S: Journal, R: Wait>(board: &Board<S>, rt: &R, seat: &mut Place<S>) -> u64
+    requires of { IsOf board.now.shared.table_id seat.old }
+    requires idle { seat.old.me.0.stage ≡ Idle }
+    ensures pass { (seat.new.table_id ≡ seat.old.table_id) × (seat.new.me ≡ (naming result seat.old.me.0, seat.old.me.1)) }
+    ensures new { (result ≢ seat.old.me.0.caller) × Each (λ l. l.caller ≢ result) seat.old.me.0.seen }
+{
+    for _ in rt.forever() {
+        let next = board.shared.peek(3);
+        if next < u64::MAX {
+            let shared = &board.shared;
+            let found = shared.compare_exchange::<Name>(seat, 3, next, next + 1);
+            if found == next {
+                return next;
+            }
+        }
+        yield_now();
+    }
+    unreachable!()
+}
+
+// A seat for the next caller, who is told what this one knows.
+pub(crate) fn fork<S: Journal, R: Wait>(
+    board: &Board<S>,
+    rt: &R,
+    seat: &mut Place<S>,
+) -> (u64, Place<S>)
+    requires of { IsOf board.now.shared.table_id seat.old }
+    requires idle { IsIdle seat.old }
+    ensures kept { (known_of seat.new ≡ known_of seat.old) × IsIdle seat.new }
+    ensures given { (known_of result.1 ≡ record (known_of seat.old) { caller = result.0 }) × IsIdle result.1 }
+    ensures new { (result.0 ≢ seat.old.me.0.caller) × Each (λ l. l.caller ≢ result.0) seat.old.me.0.seen }
+{
+    let caller = name(board, rt, seat);
+    let other = board.shared.split_seat::<Fork>(seat);
+    (caller, other)
+}
+
+// Takes another seat in, with what it has seen.
+pub(crate) fn absorb<S: Journal>(board: &Board<S>, seat: &mut Place<S>, other: Place<S>)
+    requires one { IsOf board.now.shared.table_id seat.old × IsIdle seat.old }
+    requires two { IsOf board.now.shared.table_id other × IsIdle other }
+    ensures pass { IsSameSeat seat.old seat.new × IsIdle seat.new }
+    ensures past { seat.new.me.0.past ≡ max seat.old.me.0.past other.me.0.past }
+    ensures seen { seat.new.me.0.seen ≡ longer_of seat.old.me.0.seen other.me.0.seen }
+    ensures ordered { IsBeginning seat.old.me.0.seen other.me.0.seen ⊎ IsBeginning other.me.0.seen seat.old.me.0.seen }
+    ensures grows { Grows seat.old.me.0.caller seat.old.me.0.past seat.old.me.0.seen seat.new.me.0.seen }
+    ensures follows { Follows other.me.0.past other.me.0.seen seat.new.me.0.seen }
+{
+    board.shared.join_seat::<Glue>(seat, other);
+    board.shared.load::<TakeIn>(seat, 0);
+}
+
+// The state is back in its slot: enters the entry that its journal grew by.
+fn settle<S: Journal>(board: &Board<S>, seat: &mut Place<S>, ticket: u64, grown: bool)
+    requires of { IsOf board.now.shared.table_id seat.old }
+    requires back { IsBack (λ b. S.lines b.value) (λ b. S.frame b.value) seat.old ticket grown }
+    ensures { IsSettled (λ b. S.lines b.value) (λ b. S.frame b.value) seat.old seat.new ticket }
+{
+    if !grown {
+        return;
+    }
+    board.shared.fetch_add::<Record<S>>(seat, 0, 1);
+}
+
+// Gives the turn away.
+pub(crate) fn pass_on<S: Journal>(board: &Board<S>, seat: &mut Place<S>, ticket: u64, grown: bool)
+    requires of { IsOf board.now.shared.table_id seat.old }
+    requires back { IsBack (λ b. S.lines b.value) (λ b. S.frame b.value) seat.old ticket grown }
+    ensures pass { IsSameSeat seat.old seat.new × IsIdle seat.new × (seat.new.me.0.past ≡ ticket + 1) }
+    ensures seen { Sees (λ b. S.lines b.value) seat.old.me.1 seat.new.me.0.seen }
+{
+    settle(board, seat, ticket, grown);
+    board.shared.fetch_add::<PassOn>(seat, 2, 1);
+}
