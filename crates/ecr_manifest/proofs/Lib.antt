@@ -2,3 +2,4 @@ pub mod ReadLemmas
 pub mod GivenLemmas
 pub mod ManifestLemmas
 pub mod OnceLemmas
+pub mod CountLemmas

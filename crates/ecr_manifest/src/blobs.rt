@@ -1,5 +1,5 @@
 // What a manifest names.
-ghost use Rattle.std.specs.Prelude.{◌≡◌, ◌∷◌, IfOk, Some, List, filter, map, not, option_map};
+ghost use Rattle.std.specs.Prelude.{◌≡◌, ◌<◌, ◌^◌, ◌∷◌, IfOk, IfSome, Some, List, filter, length, map, not, option_map};
 ghost use Rattle.std.specs.List.{filter_map, position, sum_by};
 ghost use Rattle.ecr_model.specs.Manifests.{each_once, facts_of, is_no_descriptor, judged, named, size_from, size_of, some_of, stored_digests};
 
@@ -20,6 +20,7 @@ pub(crate) fn judged(
     config: Option<Descriptor>,
     entries: Option<Vec<Option<Descriptor>>>,
 ) -> Result<Result<Facts, ManifestFault>, Mem>
+    requires { IfSome entries (λ v. length v.items < 2 ^ 32) }
     ensures { IfOk result (λ r. r ≡ judged list media.now config (option_map (λ v. v.items) entries)) }
 {
     if !list && config.is_none() {
@@ -29,10 +30,6 @@ pub(crate) fn judged(
         return Ok(Err(fault(7)))
     };
     if let Some(at) = first_other(entries.as_slice()) {
-        // There are fewer entries than bytes, so the number always fits.
-        if at >= 4_294_967_295 {
-            return Err(Mem);
-        }
         return Ok(Err(ManifestFault {
             cause: 7,
             entry: at as u32 + 1,
@@ -47,7 +44,8 @@ pub(crate) fn judged(
 
 /// The place of the first entry that is no descriptor.
 fn first_other(entries: &[Option<Descriptor>]) -> Option<usize>
-    ensures { result ≡ position is_no_descriptor entries.now }
+    ensures first { result ≡ position is_no_descriptor entries.now }
+    ensures inside { IfSome result (λ at. at < length entries.now) }
 {
     entries.iter().position(|entry| entry.is_none())
 }

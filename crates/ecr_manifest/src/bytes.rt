@@ -26,6 +26,8 @@ pub enum ManifestRefusal {
 }
 
 /// The facts of a manifest, under the media type that was given with it.
+///
+/// There are fewer entries than bytes, so the number of each is below 2^32.
 pub fn read(alloc: Global, bytes: &[u8], media: Option<&str>) -> Result<Facts, ManifestRefusal>
     requires { length bytes.now < 2 ^ 32 }
     ensures taken { IfOk result (λ f. facts bytes.now (option_map (λ s. s.now) media.entry) ≡ Ok f) }
@@ -48,6 +50,7 @@ fn facts(
     bytes: &[u8],
     media: Option<&str>,
 ) -> Result<Result<Facts, ManifestFault>, Mem>
+    requires { length bytes.now < 2 ^ 32 }
     ensures { IfOk result (λ r. r ≡ facts bytes.now (option_map (λ s. s.now) media.entry)) }
 {
     match read_document(alloc, bytes)? {

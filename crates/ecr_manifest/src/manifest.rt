@@ -1,8 +1,9 @@
 // What a manifest says of itself (OCI Image 1.1, image manifest and image index).
-ghost use Rattle.std.specs.Prelude.{◌≡◌, IfOk, length, map, option_and_then, option_map};
+ghost use Rattle.std.specs.Prelude.{◌≡◌, ◌+◌, ◌≤◌, ◌^◌, IfOk, IfSome, length, map, option_and_then, option_map};
 ghost use Rattle.serde_json.specs.Find.{as_array, get};
 ghost use Rattle.serde_json.specs.View.{items_view, view};
 ghost use Rattle.ecr_model.specs.Manifests.{config_of, descriptor_of, descriptors, differs, entries_name, entries_of, is_image, is_list, is_mistyped, is_two, judged, manifest_fault, media_from, media_of, reading, stored};
+ghost use Rattle.ecr_manifest.specs.Counts.{size};
 
 use crate::blobs::judged;
 use crate::descriptor::{descriptor_of, member_of, text_of, whole_of};
@@ -25,6 +26,7 @@ pub(crate) fn reading(
     given: Option<&[u8]>,
     value: &Value,
 ) -> Result<Result<Facts, ManifestFault>, Mem>
+    requires { size (view value.now) ≤ 2 ^ 32 }
     ensures { IfOk result (λ r. r ≡ reading (option_map (λ v. v.now) given.entry) (view value.now)) }
 {
     match manifest_fault(given, value) {
@@ -39,6 +41,7 @@ fn read_blobs(
     media: &[u8],
     value: &Value,
 ) -> Result<Result<Facts, ManifestFault>, Mem>
+    requires { size (view value.now) ≤ 2 ^ 32 }
     ensures { IfOk result (λ r. r ≡ judged (is_list media.now) media.now (config_of (is_list media.now) (view value.now)) (entries_of (is_list media.now) (view value.now))) }
 {
     let list = is_list(media);
@@ -178,7 +181,8 @@ fn entries_of(
     list: bool,
     value: &Value,
 ) -> Result<Option<Vec<Option<Descriptor>>>, Mem>
-    ensures { IfOk result (λ o. option_map (λ v. v.items) o ≡ entries_of list (view value.now)) }
+    ensures exact { IfOk result (λ o. option_map (λ v. v.items) o ≡ entries_of list (view value.now)) }
+    ensures few { IfOk result (λ o. IfSome o (λ v. length v.items + 2 ≤ size (view value.now))) }
 {
     match array_of(value, entries_name(list)) {
         Some(values) => Ok(Some(descriptors(alloc, values.as_slice())?)),

@@ -59,6 +59,11 @@ fn the_first_cause_is_answered(rt: HostRuntime) -> Result<(), Fail> {
         (r#"{"mediaType":7}"#, None, 3),
         (r#"{"mediaType":"a/b"}"#, Some(OCI), 3),
         (r#"{"mediaType":"a/b"}"#, None, 4),
+        (
+            r#"{"mediaType":"application/vnd.docker.distribution.manifest.v1+json"}"#,
+            None,
+            4,
+        ),
         ("{}", Some(schema_1), 4),
         (r#"{"schemaVersion":2.0}"#, Some(OCI), 5),
         (r#"{"schemaVersion":"2"}"#, Some(OCI), 5),
@@ -73,6 +78,24 @@ fn the_first_cause_is_answered(rt: HostRuntime) -> Result<(), Fail> {
     }
     assert_eq!(rt; cause_of(rt.alloc(), &[b'{', 0xff, b'}'], None)?, (1, 0));
     assert_eq!(rt; cause_of(rt.alloc(), &[b'['; 128], None)?, (1, 0));
+    Ok(())
+}
+
+#[test]
+fn a_text_nests_127_levels(rt: HostRuntime) -> Result<(), Fail> {
+    // The object is a level.
+    for (lists, cause) in [(126, 5), (127, 1)].iter() {
+        let mut text = String::from_str(rt.alloc(), r#"{"a":"#)?;
+        for _ in 0..*lists {
+            text.push_str("[")?;
+        }
+        for _ in 0..*lists {
+            text.push_str("]")?;
+        }
+        text.push_str("}")?;
+        let answer = cause_of(rt.alloc(), text.as_str().as_bytes(), Some(OCI))?;
+        assert_eq!(rt; answer, (*cause, 0));
+    }
     Ok(())
 }
 
@@ -115,6 +138,12 @@ fn an_entry_is_counted_from_1(rt: HostRuntime) -> Result<(), Fail> {
     assert_eq!(rt;
         cause_of(rt.alloc(), text.as_str().as_bytes(), None)?,
         (7, 1)
+    );
+    let manifests = format!(in rt.alloc(); "[{LAYER},{{\"mediaType\":\"a/b\",\"size\":2}}]")?;
+    let text = index(rt.alloc(), manifests.as_str())?;
+    assert_eq!(rt;
+        cause_of(rt.alloc(), text.as_str().as_bytes(), None)?,
+        (7, 2)
     );
     let most =
         r#"{"mediaType":"a/b","digest":"sha256:44136fa355b3678a1146ad16f7e8649e94fb4fc21fe77e8310c060f61caaff8a","size":9223372036854775807}"#;

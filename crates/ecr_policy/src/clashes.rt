@@ -1,12 +1,34 @@
 // The rules of a policy beside each other: causes 14 to 17.
-ghost use Rattle.std.specs.Prelude.{◌≡◌, ◌≤◌, ◌&&◌, ◌==◌, nat_lt, bytes_eq, length, [], List};
-ghost use Rattle.std.specs.List.{list_any, list_all};
-ghost use Rattle.ecr_model.specs.Policies.{is_any, is_untagged, is_subset, have_same_texts, clash, clashes_from};
+ghost use Rattle.std.specs.Prelude.{◌≡◌, ◌≤◌, ◌==◌, IfOk, nat_lt, length, [], List};
+ghost use Rattle.std.specs.List.{list_any};
+ghost use Rattle.ecr_model.specs.Policies.{is_any, is_untagged, have_same_texts, clash, clashes_from};
 
-use ecr_model::{Choose, PolicyFault, Rule, Text};
+use crate::compared::Compared;
+use ecr_model::{Choose, Mem, PolicyFault, Rule};
+use std::alloc::Global;
 
 /// The first rule that doesn't go with the others.
-pub(crate) fn first_clash(rules: &[Rule]) -> Option<PolicyFault>
+pub(crate) fn first_clash(alloc: Global, rules: &[Rule]) -> Result<Option<PolicyFault>, Mem>
+    requires { length rules.now ≤ 50 }
+    ensures { IfOk result (λ r. r ≡ clashes_from 1 rules.now [] rules.now) }
+{
+    let rules = with_prefixes(alloc, rules)?;
+    Ok(first_among(rules.as_slice()))
+}
+
+/// Each rule beside its prefixes in order.
+fn with_prefixes(alloc: Global, rules: &[Rule]) -> Result<Vec<Compared<'_>>, Mem>
+    ensures { IfOk result (λ v. v.items ≡ rules.now) }
+{
+    let mut all = Vec::new(alloc);
+    for rule in rules {
+        all.push(Compared::new(alloc, rule)?)?;
+    }
+    Ok(all)
+}
+
+/// The first rule that doesn't go with the others.
+fn first_among(rules: &[Compared<'_>]) -> Option<PolicyFault>
     requires { length rules.now ≤ 50 }
     ensures { result ≡ clashes_from 1 rules.now [] rules.now }
 {
@@ -22,16 +44,17 @@ pub(crate) fn first_clash(rules: &[Rule]) -> Option<PolicyFault>
 }
 
 /// The first cause that the rule has beside the earlier ones and all.
-fn clash(all: &[Rule], earlier: &[Rule], rule: &Rule) -> Option<u8>
-    ensures { result ≡ clash all.now earlier.now rule.now }
+fn clash(all: &[Compared<'_>], earlier: &[Compared<'_>], compared: &Compared<'_>) -> Option<u8>
+    ensures { result ≡ clash all.now earlier.now compared.now }
 {
+    let rule = compared.rule();
     if has_number(earlier, rule.priority) {
         Some(14)
     } else if is_any(&rule.choose) && has_greater(all, rule.priority) {
         Some(15)
     } else if is_untagged(&rule.choose) && has_untagged(earlier) {
         Some(16)
-    } else if has_same_texts(earlier, &rule.choose) {
+    } else if has_same_texts(earlier, compared) {
         Some(17)
     } else {
         None
@@ -39,33 +62,31 @@ fn clash(all: &[Rule], earlier: &[Rule], rule: &Rule) -> Option<u8>
 }
 
 /// Whether a rule has the number.
-fn has_number(rules: &[Rule], number: u32) -> bool
+fn has_number(rules: &[Compared<'_>], number: u32) -> bool
     ensures { result ≡ list_any (λ e. e.priority == number) rules.now }
 {
-    rules.iter().any(|rule| rule.priority == number)
+    rules.iter().any(|rule| rule.rule().priority == number)
 }
 
 /// Whether a rule has a greater number.
-fn has_greater(rules: &[Rule], number: u32) -> bool
+fn has_greater(rules: &[Compared<'_>], number: u32) -> bool
     ensures { result ≡ list_any (λ o. nat_lt number o.priority) rules.now }
 {
-    rules.iter().any(|rule| number < rule.priority)
+    rules.iter().any(|rule| number < rule.rule().priority)
 }
 
 /// Whether a rule chooses the images without tags.
-fn has_untagged(rules: &[Rule]) -> bool
+fn has_untagged(rules: &[Compared<'_>]) -> bool
     ensures { result ≡ list_any (λ e. is_untagged e.choose) rules.now }
 {
-    rules.iter().any(|rule| is_untagged(&rule.choose))
+    rules.iter().any(|rule| is_untagged(&rule.rule().choose))
 }
 
 /// Whether a rule has a list with the same set of texts.
-fn has_same_texts(rules: &[Rule], choose: &Choose) -> bool
-    ensures { result ≡ list_any (λ e. have_same_texts choose.now e.choose) rules.now }
+fn has_same_texts(rules: &[Compared<'_>], rule: &Compared<'_>) -> bool
+    ensures { result ≡ list_any (λ e. have_same_texts rule.now.choose e.choose) rules.now }
 {
-    rules
-        .iter()
-        .any(|rule| have_same_texts(choose, &rule.choose))
+    rules.iter().any(|other| rule.has_same_texts(other))
 }
 
 /// Whether it is every image.
@@ -80,30 +101,4 @@ fn is_untagged(choose: &Choose) -> bool
     ensures { result ≡ is_untagged choose.now }
 {
     matches!(choose, Choose::Untagged)
-}
-
-/// Whether both are lists of prefixes with the same set of texts.
-fn have_same_texts(choose: &Choose, other: &Choose) -> bool
-    ensures { result ≡ have_same_texts choose.now other.now }
-{
-    match (choose, other) {
-        (Choose::Prefixes(xs), Choose::Prefixes(ys)) => {
-            is_subset(xs.as_slice(), ys.as_slice()) && is_subset(ys.as_slice(), xs.as_slice())
-        }
-        _ => false,
-    }
-}
-
-/// Whether each text is one of the others.
-fn is_subset(texts: &[Text], others: &[Text]) -> bool
-    ensures { result ≡ is_subset texts.now others.now }
-{
-    texts.iter().all(|text| is_among(others, text.as_bytes()))
-}
-
-/// Whether it is one of the texts.
-fn is_among(texts: &[Text], text: &[u8]) -> bool
-    ensures { result ≡ list_any (λ y. bytes_eq y text.now) texts.now }
-{
-    texts.iter().any(|other| other.as_bytes() == text)
 }

@@ -5,6 +5,7 @@
 #![tactic(auto)]
 
 mod clashes;
+mod compared;
 mod json;
 mod order;
 mod reading;

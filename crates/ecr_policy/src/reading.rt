@@ -121,7 +121,7 @@ fn together(
         Ok(rules) => rules,
         Err(fault) => return Ok(Err(fault)),
     };
-    if let Some(fault) = first_clash(rules.as_slice()) {
+    if let Some(fault) = first_clash(alloc, rules.as_slice())? {
         return Ok(Err(fault));
     }
     let rules = by_number(alloc, rules)?;

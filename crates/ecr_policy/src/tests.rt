@@ -55,6 +55,136 @@ fn a_policy_is_read_or_its_first_cause_is_told(rt: HostRuntime) -> Result<(), Fa
     Ok(())
 }
 
+/// A whole policy of 138 characters.
+const ONE: &str =
+    r#"{"rules":[{"rulePriority":1,"selection":{"tagStatus":"any","countType":"imageCountMoreThan","countNumber":1},"action":{"type":"expire"}}]}"#;
+
+#[test]
+fn characters_are_counted(rt: HostRuntime) -> Result<(), Fail> {
+    let alloc = rt.alloc();
+    assert_eq!(rt; ONE.len(), 138);
+    for (length, cause) in [(138, 0), (30720, 0), (30721, 1)].iter() {
+        let text = padded(alloc, ONE, *length)?;
+        assert_eq!(rt; told(alloc, text.as_str())?, (0, *cause));
+    }
+    // 30 characters of one byte and so many of three.
+    for (many, fault) in [(69, (0, 1)), (70, (1, 5)), (30690, (1, 5)), (30691, (0, 1))].iter() {
+        let text = around(
+            alloc,
+            r#"{"rules":[{"description":""#,
+            "語",
+            *many,
+            r#""}]}"#,
+        )?;
+        assert_eq!(rt; told(alloc, text.as_str())?, *fault);
+    }
+    for (character, many, cause) in [
+        ("é", 128, 0),
+        ("é", 129, 9),
+        (r"\u0061", 128, 0),
+        (r"\u0061", 129, 9),
+    ]
+    .iter()
+    {
+        let list = around(alloc, "[\"", *character, *many, "\"]")?;
+        let rule = tagged(alloc, "1", list.as_str())?;
+        assert_eq!(rt;
+            told(alloc, policy(alloc, &[rule.as_str()])?.as_str())?.1,
+            *cause
+        );
+    }
+    Ok(())
+}
+
+#[test]
+fn the_last_of_two_members_counts(rt: HostRuntime) -> Result<(), Fail> {
+    let alloc = rt.alloc();
+    for (members, fault) in [
+        (r#""rules":[],"rules":["#, (0, 0)),
+        (r#""rules":[{}],"rules":["#, (0, 0)),
+        (r#""rule":[],"rules":["#, (0, 2)),
+    ]
+    .iter()
+    {
+        let text = format!(in alloc; "{{{members}{ANY}]}}")?;
+        assert_eq!(rt; told(alloc, text.as_str())?, *fault, "{members}");
+    }
+    let text = format!(in alloc; "{{\"rules\":[{ANY}],\"rules\":[]}}")?;
+    assert_eq!(rt; told(alloc, text.as_str())?, (0, 3));
+    // With the object and the list of rules around them these are 127 and 128 levels.
+    for (many, fault) in [(125, (1, 4)), (126, (0, 2))].iter() {
+        let lists = around(alloc, "{\"rules\":[", "[", *many, "")?;
+        let text = around(alloc, lists.as_str(), "]", *many, "]}")?;
+        assert_eq!(rt; told(alloc, text.as_str())?, *fault);
+    }
+    Ok(())
+}
+
+#[test]
+fn numbers_and_sets_of_prefixes_are_compared(rt: HostRuntime) -> Result<(), Fail> {
+    let alloc = rt.alloc();
+    for (number, cause) in [
+        ("1", 0),
+        ("2147483647", 0),
+        ("0", 5),
+        ("-0", 5),
+        ("-1", 5),
+        ("1.0", 5),
+        ("1e0", 5),
+        ("\"1\"", 5),
+        ("2147483648", 5),
+        ("4294967297", 5),
+    ]
+    .iter()
+    {
+        let rule = tagged(alloc, *number, "[\"a\"]")?;
+        assert_eq!(rt;
+            told(alloc, policy(alloc, &[rule.as_str()])?.as_str())?.1,
+            *cause,
+            "{number}"
+        );
+    }
+    for (list, other, cause) in [
+        (r#"["a","b"]"#, r#"["b","a","b"]"#, 17),
+        (r#"["a","a"]"#, r#"["\u0061"]"#, 17),
+        (r#"["b","a","é"]"#, r#"["é","b","a"]"#, 17),
+        (r#"["a","b"]"#, r#"["b","c","a"]"#, 0),
+        (r#"["b","c","a"]"#, r#"["a","b"]"#, 0),
+        (r#"["ab"]"#, r#"["a","b"]"#, 0),
+    ]
+    .iter()
+    {
+        let first = tagged(alloc, "1", *list)?;
+        let second = tagged(alloc, "2", *other)?;
+        let text = policy(alloc, &[first.as_str(), second.as_str()])?;
+        assert_eq!(rt; told(alloc, text.as_str())?.1, *cause, "{list} {other}");
+    }
+    Ok(())
+}
+
+/// A rule of that number, by a list of prefixes.
+fn tagged(alloc: Global, number: &str, list: &str) -> Result<String, AllocError> {
+    format!(in alloc;
+        "{{\"rulePriority\":{number},\"selection\":{{\"tagStatus\":\"tagged\",\"tagPrefixList\":{list},\"countType\":\"imageCountMoreThan\",\"countNumber\":1}},\"action\":{{\"type\":\"expire\"}}}}"
+    )
+}
+
+/// The text so many times, with what stands in front of it and behind it.
+fn around(
+    alloc: Global,
+    front: &str,
+    text: &str,
+    many: usize,
+    back: &str,
+) -> Result<String, AllocError> {
+    let mut whole = String::from_str(alloc, front)?;
+    for _ in 0..many {
+        whole.push_str(text)?;
+    }
+    whole.push_str(back)?;
+    Ok(whole)
+}
+
 /// The rule and the cause, which are 0 where the text is a policy.
 fn told(alloc: Global, text: &str) -> Result<(u32, u8), AllocError> {
     match read(alloc, text) {

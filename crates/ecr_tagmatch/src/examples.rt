@@ -27,6 +27,11 @@ fn prefixes_and_patterns_match_tags(rt: HostRuntime) -> Result<(), Fail> {
         ("a*ab", "aaab"),
         ("**a**", "bab"),
         ("a*b*c", "abbcc"),
+        ("prod*", "prod"),
+        ("prod*", "production-1"),
+        ("*test*1*2*3", "test123"),
+        ("*test*1*2*3", "my-test-1.2.3"),
+        ("*test*1*2*3", "test-1-3-2-3"),
     ]
     .iter()
     {
@@ -39,6 +44,14 @@ fn prefixes_and_patterns_match_tags(rt: HostRuntime) -> Result<(), Fail> {
         ("a*ab", "aab-"),
         ("*a*a", "a"),
         ("v?", "v1"),
+        ("prod*", "preprod"),
+        ("*test*1*2*3", "test-1-3-2"),
+        ("*test*1*2*3", "test123-4"),
+        ("*test*1*2*3", "tes-1-2-3"),
+        (
+            "*a*a*a*a*a*a*a*a*a*a*a*a*a*a*a*a*b",
+            "aaaaaaaaaaaaaaaaaaaaaaaaaaaaaaaaaaaaaaaaaaaaaaaaaaaaaaaaaaaaaaaa",
+        ),
     ]
     .iter()
     {

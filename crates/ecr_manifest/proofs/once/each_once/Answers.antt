@@ -1,5 +1,8 @@
 use Rattle.std.proofs.Common.{◌≡◌, ◌++◌, ◌∷◌, [], Bool, true, List, ℕ, cond, get_or, sym, ap, ◌∙◌}
-use Rattle.std.specs.HashSet.{contains}
+use Rattle.std.specs.BTreeSet.{contains}
+use Rattle.std.specs.Cmp.Lexicographic.{slice_cmp}
+use Rattle.std.specs.Ordering.{nat_cmp}
+use Rattle.std.proofs.lemmas.Map.Text.{is_eq-slice_cmp}
 use Rattle.std.specs.Prelude.{bytes_eq}
 use Rattle.ecr_model.specs.declared.names.Digest.{Digest}
 use Rattle.ecr_manifest.proofs.OnceLemmas.{absent_where_new, is_kept, is_kept-added, kept-added, kept-present, there_where_old, where_false}
@@ -13,7 +16,7 @@ loop-digest-preserved c =
     let kept = c.loop-digest.kept.items in
     let inv = c.loop-digest.invariant in
     let e : Digest = get_or xs i (record { bytes = [] }) in
-    let was : Bool = contains bytes_eq c.loop-digest.seen e.bytes in
+    let was : Bool = contains (slice_cmp nat_cmp) c.loop-digest.seen e.bytes in
     elim c.if-branch.branch [
       | then-branch+in_ok-push w ↦
           let items : c.if-branch.kept.items ≡ kept ++ e ∷ [] = cc (w.kept-is, w.in_ok-push.ensures.items) in
@@ -22,13 +25,14 @@ loop-digest-preserved c =
             once = items ∙ kept-added xs kept i (record { bytes = [] }) c.loop-digest-test.true inv.once (sym (inv.same e.bytes) ∙ absent);
             same =
                 λ q. c.in_ok-note.ensures.added q
+                ∙ ap (λ (b : Bool). cond b true (contains (slice_cmp nat_cmp) c.loop-digest.seen q)) (is_eq-slice_cmp e.bytes q)
                 ∙ ap (λ (b : Bool). cond (bytes_eq e.bytes q) true b) (inv.same q)
                 ∙ sym (is_kept-added q kept e) ∙ ap (λ (l : List Digest). is_kept q l) (sym items);
           }
       | else-branch w ↦
           let items : c.if-branch.kept.items ≡ kept = cc (w.kept-is) in
           let there : was ≡ true = there_where_old c.in_ok-note.field-0 was w.if-branch.false c.in_ok-note.ensures.new in
-          let same = where_false c.in_ok-note.field-0 ((q : List ℕ) → contains bytes_eq c.note.new.seen q ≡ contains bytes_eq c.loop-digest.seen q) w.if-branch.false c.in_ok-note.ensures.same in
+          let same = where_false c.in_ok-note.field-0 ((q : List ℕ) → contains (slice_cmp nat_cmp) c.note.new.seen q ≡ contains (slice_cmp nat_cmp) c.loop-digest.seen q) w.if-branch.false c.in_ok-note.ensures.same in
           record {
             once = items ∙ kept-present xs kept i (record { bytes = [] }) c.loop-digest-test.true inv.once (sym (inv.same e.bytes) ∙ there);
             same = λ q. same q ∙ inv.same q ∙ ap (λ (l : List Digest). is_kept q l) (sym items);

@@ -1,0 +1,36 @@
+//! Benchmarks of the library crates. The first word names one; without one the words are told.
+#![tactic(auto)]
+
+mod hands;
+mod manifests;
+mod policies;
+mod timing;
+mod turnstiles;
+
+use std::{env, io};
+
+const USAGE: &str = "ecr_bench policy | manifest | turnstile";
+
+fn main(rt: HostRuntime) -> io::Result<()> {
+    let words: Vec<String> = env::args(&rt)?.skip(1).collect(rt.alloc())?;
+    let Some(word) = words.first() else {
+        return println!(rt; "{USAGE}");
+    };
+    if word.as_str() == "turnstile" {
+        // The only one that may wait.
+        turnstiles::time(&rt, rt.alloc())
+    } else {
+        run(&rt, word.as_str())
+    }
+}
+
+/// Runs the benchmark of that name, where it has one thread.
+fn run(rt: &HostRuntime, word: &str) -> io::Result<()> {
+    if word == "policy" {
+        policies::time(rt)
+    } else if word == "manifest" {
+        manifests::time(rt)
+    } else {
+        println!(rt; "{USAGE}")
+    }
+}
