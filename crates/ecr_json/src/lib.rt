@@ -1,0 +1,18 @@
+//! JSON for whoever speaks it: the members of a value, base64 in a text, and objects that are written (RFC 8259;
+//! RFC 4648, section 4).
+//!
+//! A member that is null counts as absent. It keeps nothing, and reads no text: a value comes from `serde_json`.
+#![tactic(auto)]
+
+mod blob;
+mod builder;
+#[cfg(test)]
+mod examples;
+mod field;
+mod members;
+
+pub use blob::decode_blob;
+pub use builder::Builder;
+pub use field::Field;
+pub use members::{list, object, text, truth, whole};
+pub use std::alloc::AllocError as Mem;
