@@ -1,82 +1,83 @@
 -- What the bytes of a session decide: what is written, and how it ends.
-use Rattle.std.proofs.Common.{◌≡◌, ℕ, Bool, true, false, List, [], ◌++◌, length, Option, Some, None, refl, sym, ap, ◌∙◌, subst, append-nil}
+use Rattle.std.proofs.Common.{◌≡◌, ℕ, ◌⊎◌, inl, inr, Bool, true, false, List, [], ◌++◌, length, Option, Some, None, refl, sym, ap, ◌∙◌, subst, ⊎_elim, append-nil}
 use Rattle.std.specs.Io.KnownBytes.{Consumes, Appends, IsAtEnd}
 use Rattle.ecr_model.specs.declared.http.Request.{Request}
 use Rattle.ecr_model.specs.declared.names.SiteId.{SiteId}
 use Rattle.ecr_model.specs.declared.outcome.Cut.{Cut}
 use Rattle.ecr_model.specs.declared.outcome.End.{End}
 use Rattle.ecr_model.specs.declared.outcome.End.TheVariants as ends
-use Rattle.ecr_model.specs.Stream.{Front, whole, bad, too_long, open_, Tail, ended, truncated, bad_at, long_at, more, tail_of, Reads}
-use Rattle.ecr_model.specs.Sessions.{fixed, AreCuts, Ends, Outside, Completed}
+use Rattle.ecr_model.specs.Stream.{Lack, bad, too_long, open_, Front, whole, short, Point, past_blank, Ending, Tail, ended, closed, truncated, bad_at, long_at, more, ending_of, tail_of, StopsBy, Reads}
+use Rattle.ecr_model.specs.StreamLaws.{is_last}
+use Rattle.ecr_model.specs.Sessions.{Ends, Outside, Serviced, Completed}
 use Rattle.ecr_model.specs.SessionLaws.{output_of, IsOfInput, IsOfRead, OutputIsDetermined, TheInputDecidesTheEnd}
-use Rattle.ecr_model.proofs.StreamLemmas.{Reads-unique, Reads-bad_stays}
+use Rattle.ecr_model.proofs.StreamLemmas.{Reads-unique, Reads-last}
 
--- ---- one end for one tail
+-- ---- one end for one ending
 
-pub Ends-unique : (tail : Tail) (size : ℕ) (end other : End) → IsOfRead end → IsOfRead other
-    → Ends end tail size → Ends other tail size → end ≡ other
-Ends-unique tail size ends.Whole ends.Whole d e x y = refl
-Ends-unique tail size ends.Whole (ends.Truncated b) d e x y = absurd (cc)
-Ends-unique tail size ends.Whole (ends.Bad b) d e x y = absurd (cc)
-Ends-unique tail size ends.Whole ends.Spent d e x y = absurd (cc (y.0))
-Ends-unique tail size (ends.Truncated a) ends.Whole d e x y = absurd (cc)
-Ends-unique tail size (ends.Truncated a) (ends.Truncated b) d e x y = let same : a ≡ b = cc in ap ends.Truncated same
-Ends-unique tail size (ends.Truncated a) (ends.Bad b) d e x y = absurd (cc)
-Ends-unique tail size (ends.Truncated a) ends.Spent d e x y = absurd (cc (y.0))
-Ends-unique tail size (ends.Bad a) ends.Whole d e x y = absurd (cc)
-Ends-unique tail size (ends.Bad a) (ends.Truncated b) d e x y = absurd (cc)
-Ends-unique tail size (ends.Bad a) (ends.Bad b) d e x y = let same : a ≡ b = cc in ap ends.Bad same
-Ends-unique tail size (ends.Bad a) ends.Spent d e x y = absurd (cc (y.0))
-Ends-unique tail size ends.Spent ends.Whole d e x y = absurd (cc (x.0))
-Ends-unique tail size ends.Spent (ends.Truncated b) d e x y = absurd (cc (x.0))
-Ends-unique tail size ends.Spent (ends.Bad b) d e x y = absurd (cc (x.0))
-Ends-unique tail size ends.Spent ends.Spent d e x y = refl
-Ends-unique tail size ends.Usage other d e x y = absurd d
-Ends-unique tail size ends.ReadFault other d e x y = absurd d
-Ends-unique tail size ends.WriteFault other d e x y = absurd d
-Ends-unique tail size ends.Mem other d e x y = absurd d
-Ends-unique tail size end ends.Usage d e x y = absurd e
-Ends-unique tail size end ends.ReadFault d e x y = absurd e
-Ends-unique tail size end ends.WriteFault d e x y = absurd e
-Ends-unique tail size end ends.Mem d e x y = absurd e
+end_like : Ending → End
+end_like ended = ends.Whole
+end_like closed = ends.Whole
+end_like (truncated at) = ends.Truncated at
+end_like (bad_at at) = ends.Bad at
+end_like (long_at at limit) = ends.TooLong at limit
+end_like more = ends.Spent
+
+end_is : (end : End) (ending : Ending) (size : ℕ) → IsOfRead end → Ends end ending size → end ≡ end_like ending
+unfolding end_like
+end_is ends.Whole ending size d x = ⊎_elim (λ (e : ending ≡ ended). sym (ap end_like e)) (λ (e : ending ≡ closed). sym (ap end_like e)) x
+end_is (ends.Truncated at) ending size d x = sym (ap end_like x)
+end_is (ends.Bad at) ending size d x = sym (ap end_like x)
+end_is (ends.TooLong at limit) ending size d x = sym (ap end_like x)
+end_is ends.Spent ending size d x = sym (ap end_like x.0)
+end_is ends.Usage ending size d x = absurd d
+end_is ends.ReadFault ending size d x = absurd d
+end_is ends.WriteFault ending size d x = absurd d
+end_is ends.Mem ending size d x = absurd d
 
 pub output_is_determined : OutputIsDetermined
-output_is_determined site moment cuts read over requests others tail last reads again =
+output_is_determined sites moments cuts read over requests others tail last reads again =
     let same : (requests ≡ others) × (tail ≡ last) = Reads-unique read over requests others tail last reads again in (
       same.0,
       same.1,
       cc,
-      λ end other d e x y. Ends-unique last (length read) end other d e (subst (λ (t : Tail). Ends end t (length read)) same.1 x) y,
+      λ end other d e x y.
+          end_is end tail.ending (length read) d x ∙ ap (λ (t : Tail). end_like t.ending) same.1
+          ∙ sym (end_is other last.ending (length read) e y),
     )
 
--- ---- the tails that only the end of the input gives
+-- ---- the endings that only the end of the input gives
 
-abbrev pub needs_end : Tail → Bool
+abbrev needs_end : Ending → Bool
 needs_end ended = true
+needs_end closed = false
 needs_end (truncated at) = true
 needs_end (bad_at at) = false
 needs_end (long_at at limit) = false
 needs_end more = false
 
-not_yet : (b : Bool) (tail : Tail) → b ≡ false → b ≡ needs_end tail → needs_end tail ≡ true → ⊥
-not_yet b tail off is on = cc
+lack_over : (over : Bool) (p : Point) (lack : Lack) → needs_end (ending_of over p lack) ≡ true → over ≡ true
+lack_over true p lack needs = refl
+lack_over false p bad needs = absurd (cc)
+lack_over false p (too_long limit) needs = absurd (cc)
+lack_over false p open_ needs = absurd (cc)
 
-tail_over : (over : Bool) (place : ℕ) (bytes : List ℕ) (front : Front) (tail : Tail)
-    → tail_of over place bytes front ≡ Some tail → needs_end tail ≡ true → over ≡ true
-tail_over true place bytes front tail is needs = refl
-tail_over false place bytes (whole r n) tail is needs = absurd (cc)
-tail_over false place bytes bad tail is needs =
-    let same : bad_at place ≡ tail = cc in absurd (not_yet false tail refl (ap needs_end same) needs)
-tail_over false place bytes (too_long limit) tail is needs =
-    let same : long_at place limit ≡ tail = cc in absurd (not_yet false tail refl (ap needs_end same) needs)
-tail_over false place bytes (open_ due) tail is needs =
-    let same : more ≡ tail = cc in absurd (not_yet false tail refl (ap needs_end same) needs)
+tail_over : (over : Bool) (p : Point) (front : Front) (tail : Tail) → tail_of over p front ≡ Some tail
+    → needs_end tail.ending ≡ true → over ≡ true
+tail_over over p (whole r n) tail is needs = absurd (cc)
+tail_over over p (short due lack) tail is needs =
+    let same : record { due = due; ending = ending_of over p lack } ≡ tail = cc in
+    lack_over over p lack (ap (λ (t : Tail). needs_end t.ending) same ∙ needs)
+
+stops_over : (shut over : Bool) (p : Point) (tail : Tail) → StopsBy shut over p tail → needs_end tail.ending ≡ true
+    → over ≡ true
+stops_over true over p tail stops needs =
+    let none : needs_end closed ≡ true = sym (ap (λ (t : Tail). needs_end t.ending) stops) ∙ needs in absurd (cc)
+stops_over false over p tail stops needs = tail_over over (past_blank p) stops.front tail stops.is needs
 
 -- where the bytes end so, the input has ended
 pub Reads-over : (bytes : List ℕ) (over : Bool) (rs : List Request) (tail : Tail) → Reads bytes over rs tail
-    → needs_end tail ≡ true → over ≡ true
-Reads-over bytes over rs tail reads needs =
-    tail_over over _ _ reads.stops.front tail reads.stops.is needs
+    → needs_end tail.ending ≡ true → over ≡ true
+Reads-over bytes over rs tail reads needs = stops_over reads.point.closed over reads.point tail reads.stops needs
 
 -- ---- what was read is the front of the input
 
@@ -87,63 +88,63 @@ Consumes-front (Some xs) None input read is consumed = absurd consumed
 Consumes-front (Some xs) (Some ys) input read is consumed =
     let same : xs ≡ input = cc in (ys, refl, sym same ∙ consumed)
 
--- at the end of the input all of it was read
-Reads_all : (input read rest : List ℕ) (over : Bool) (after : Option (List ℕ)) (rs : List Request) (tail : Tail)
+-- what was read decides the reading of the whole input: it shows the last that counts, or it is all of the input
+reads_input : (input read rest : List ℕ) (over : Bool) (after : Option (List ℕ)) (rs : List Request) (tail : Tail)
     → after ≡ Some rest → input ≡ read ++ rest → (over ≡ true → IsAtEnd after) → Reads read over rs tail
-    → needs_end tail ≡ true → Reads input true rs tail
-Reads_all input read rest over after rs tail left is at_end reads needs =
+    → (is_last tail.ending ≡ true) ⊎ (needs_end tail.ending ≡ true) → Reads input true rs tail
+reads_input input read rest over after rs tail left is at_end reads (inl last) =
+    subst (λ (b : List ℕ). Reads b true rs tail) (sym is) (Reads-last read rest over true rs tail last reads)
+reads_input input read rest over after rs tail left is at_end reads (inr needs) =
     let finished : over ≡ true = Reads-over read over rs tail reads needs in
     let nothing : rest ≡ [] = subst IsAtEnd left (at_end finished) in
     let all : read ≡ input = sym (append-nil read) ∙ ap (λ (l : List ℕ). read ++ l) (sym nothing) ∙ sym is in
     subst (λ (b : List ℕ). Reads b true rs tail) all (subst (λ (o : Bool). Reads read o rs tail) finished reads)
 
--- what was read decides the reading of the whole input
-Reads_input : (end : End) (size : ℕ) (input read rest : List ℕ) (over : Bool) (after : Option (List ℕ)) (rs : List Request) (tail : Tail)
-    → IsOfInput end → Ends end tail size → after ≡ Some rest → input ≡ read ++ rest → (over ≡ true → IsAtEnd after)
-    → Reads read over rs tail → Reads input true rs tail
-Reads_input ends.Whole size input read rest over after rs tail d x left is at_end reads =
-    Reads_all input read rest over after rs tail left is at_end reads (ap needs_end x)
-Reads_input (ends.Truncated at) size input read rest over after rs tail d x left is at_end reads =
-    Reads_all input read rest over after rs tail left is at_end reads (ap needs_end x)
-Reads_input (ends.Bad at) size input read rest over after rs tail d x left is at_end reads =
-    let stays : Reads (read ++ rest) true rs (bad_at at) =
-    Reads-bad_stays read rest over true rs at (subst (λ (t : Tail). Reads read over rs t) x reads) in
-    subst (λ (t : Tail). Reads input true rs t) (sym x) (subst (λ (b : List ℕ). Reads b true rs (bad_at at)) (sym is) stays)
-Reads_input ends.Usage size input read rest over after rs tail d x left is at_end reads = absurd d
-Reads_input ends.ReadFault size input read rest over after rs tail d x left is at_end reads = absurd d
-Reads_input ends.WriteFault size input read rest over after rs tail d x left is at_end reads = absurd d
-Reads_input ends.Mem size input read rest over after rs tail d x left is at_end reads = absurd d
-Reads_input ends.Spent size input read rest over after rs tail d x left is at_end reads = absurd d
+-- such an end is one of the two
+end_shows : (end : End) (ending : Ending) (size : ℕ) → IsOfInput end → Ends end ending size
+    → (is_last ending ≡ true) ⊎ (needs_end ending ≡ true)
+end_shows ends.Whole ending size d x = ⊎_elim (λ (e : ending ≡ ended). inr (ap needs_end e)) (λ (e : ending ≡ closed). inl (ap is_last e)) x
+end_shows (ends.Truncated at) ending size d x = inr (ap needs_end x)
+end_shows (ends.Bad at) ending size d x = inl (ap is_last x)
+end_shows (ends.TooLong at limit) ending size d x = inl (ap is_last x)
+end_shows ends.Usage ending size d x = absurd d
+end_shows ends.ReadFault ending size d x = absurd d
+end_shows ends.WriteFault ending size d x = absurd d
+end_shows ends.Mem ending size d x = absurd d
+end_shows ends.Spent ending size d x = absurd d
 
--- such an end says nothing of how many bytes were read
-Ends_any_size : (end : End) (tail : Tail) (size other : ℕ) → IsOfInput end → Ends end tail size → Ends end tail other
-Ends_any_size ends.Whole tail size other d x = x
-Ends_any_size (ends.Truncated at) tail size other d x = x
-Ends_any_size (ends.Bad at) tail size other d x = x
-Ends_any_size ends.Usage tail size other d x = absurd d
-Ends_any_size ends.ReadFault tail size other d x = absurd d
-Ends_any_size ends.WriteFault tail size other d x = absurd d
-Ends_any_size ends.Mem tail size other d x = absurd d
-Ends_any_size ends.Spent tail size other d x = absurd d
+-- and says nothing of how many bytes were read
+Ends_any_size : (end : End) (ending : Ending) (size other : ℕ) → IsOfInput end → Ends end ending size
+    → Ends end ending other
+Ends_any_size ends.Whole ending size other d x = x
+Ends_any_size (ends.Truncated at) ending size other d x = x
+Ends_any_size (ends.Bad at) ending size other d x = x
+Ends_any_size (ends.TooLong at limit) ending size other d x = x
+Ends_any_size ends.Usage ending size other d x = absurd d
+Ends_any_size ends.ReadFault ending size other d x = absurd d
+Ends_any_size ends.WriteFault ending size other d x = absurd d
+Ends_any_size ends.Mem ending size other d x = absurd d
+Ends_any_size ends.Spent ending size other d x = absurd d
 
 -- the session's reading is the input's
-pub Completed-reads_input : (site : SiteId) (moment : ℕ) (before after : Outside) (cuts : List Cut) (end : End) (input : List ℕ)
-    → before.left ≡ Some input → (done : Completed site moment before after cuts end) → IsOfInput end
+pub Completed-reads_input : (sites : List SiteId) (fixed : Option ℕ) (before after : Outside) (cuts : List Cut) (end : End) (input : List ℕ)
+    → before.left ≡ Some input → (done : Completed sites fixed before after cuts end) → IsOfInput end
     → Reads input true done.requests done.tail
-Completed-reads_input site moment before after cuts end input told done d =
+Completed-reads_input sites fixed before after cuts end input told done d =
     let front : (rest : List ℕ) × (after.left ≡ Some rest) × (input ≡ done.read ++ rest) =
     Consumes-front before.left after.left input done.read told done.consumed in
-    Reads_input end (length done.read) input done.read front.0 done.over after.left done.requests done.tail d done.ends front.1 front.2
-    done.at_end done.reads
+    reads_input input done.read front.0 done.over after.left done.requests done.tail front.1 front.2 done.at_end done.reads
+    (end_shows end done.tail.ending (length done.read) d done.ends)
 
 pub the_input_decides_the_end : TheInputDecidesTheEnd
-the_input_decides_the_end site moment before after cuts end input requests tail told done d reads =
-    let mine : Reads input true done.requests done.tail = Completed-reads_input site moment before after cuts end input told done d in
+the_input_decides_the_end sites fixed before after cuts end input requests tail told done d reads =
+    let mine : Reads input true done.requests done.tail = Completed-reads_input sites fixed before after cuts end input told done d in
     let same : (done.requests ≡ requests) × (done.tail ≡ tail) =
     Reads-unique input true done.requests requests done.tail tail mine reads in (
-      subst (λ (t : Tail). Ends end t (length input)) same.1
-          (Ends_any_size end done.tail (length done.read) (length input) d done.ends),
-      subst (λ (rs : List Request). AreCuts site [] rs (fixed moment cuts) cuts) same.0 done.cuts_fit,
-      subst (λ (t : Tail). Appends before.held after.held (output_of site moment cuts requests t)) same.1
-          (subst (λ (rs : List Request). Appends before.held after.held (output_of site moment cuts rs done.tail)) same.0 done.sent),
+      subst (λ (t : Tail). Ends end t.ending (length input)) same.1
+          (Ends_any_size end done.tail.ending (length done.read) (length input) d done.ends),
+      done.moments,
+      subst (λ (rs : List Request). Serviced sites fixed before after rs done.moments cuts) same.0 done.serviced,
+      subst (λ (t : Tail). Appends before.held after.held (output_of sites done.moments cuts requests t)) same.1
+          (subst (λ (rs : List Request). Appends before.held after.held (output_of sites done.moments cuts rs done.tail)) same.0 done.sent),
     )

@@ -1,5 +1,5 @@
 -- The first request of the example, read and answered.
-use Rattle.std.proofs.Common.{lit≤, ◌≡◌, ℕ, zero, suc, ◌<◌, ◌⊎◌, Bool, true, false, List, [], ◌∷◌, take, Some, codes, if◌then◌else◌, refl, sym, ⊎_elim, subst, arith}
+use Rattle.std.proofs.Common.{lit≤, ◌≡◌, ℕ, zero, suc, ◌<◌, ◌⊎◌, Bool, true, false, List, [], ◌∷◌, take, drop, Some, codes, if◌then◌else◌, refl, sym, ⊎_elim, subst, arith}
 use Rattle.std.specs.Str.Lossy.{utf8_valid_len}
 use Rattle.std.specs.Str.{is_utf8, chars, IsAscii}
 use Rattle.std.specs.Fmt.{digits}
@@ -8,26 +8,30 @@ use Rattle.std.proofs.lemmas.List.Elements.{All-nil, All-cons}
 use Rattle.std.proofs.lemmas.Str.{IsUtf8-from_ascii}
 use Rattle.httparse.specs.Grammar.{RequestHead, IsRequestHead, IsField, Field, crlf, print_request, is_token_byte, is_uri_byte, is_value_byte, trim_ows}
 use Rattle.serde_json.proofs.OnLiterals.{serde_json_on_literals}
-use Rattle.ecr_model.specs.Framing.{max_head, ends_empty, IsHeadLength, Parses, body_length, is_served, max_body}
-use Rattle.ecr_model.specs.Stream.{whole, open_, IsFront, Stops, ended}
+use Rattle.ecr_model.specs.Framing.{max_head, ends_empty, IsEnd, Parses, framing_of, max_body, waits, says_close}
+use Rattle.ecr_model.specs.declared.http.Head.{Head}
+use Rattle.ecr_model.specs.declared.http.Framing.TheVariants.{Sized}
+use Rattle.ecr_model.specs.Fields.{has_close}
+use Rattle.ecr_model.specs.Stream.{complete, IsBody, whole, short, open_, head_part, IsFront, Point, Stops}
 use Rattle.ecr_model.specs.Sessions.{written, left_by, replies}
-use Rattle.ecr_model.specs.Calls.{asked_of, asks_for, creation, document}
+use Rattle.ecr_model.specs.Hosts.{site_for, named_site, without_port}
+use Rattle.ecr_model.specs.Calls.{asked_at, is_json_call, creation, document}
 use Rattle.ecr_model.specs.Repositories.{step}
-use Rattle.ecr_model.specs.Replies.{json_reply, json_head}
+use Rattle.ecr_model.specs.Replies.{reply_text, json_head, connection_line, interim}
 use Rattle.ecr_model.specs.Bodies.{repository_body, repository_data}
 use Rattle.ecr_model.specs.Names.{is_name}
 use Rattle.ecr_model.specs.Sites.{utf8_or_empty, arn_of, uri_of}
-use Rattle.ecr_model.specs.Example.{first_bytes, first_request, AFirstCreationIsAnswered, AFirstRequestIsRead, AFirstSessionIsWritten}
-use Rattle.ecr_model.proofs.StreamLemmas.{IsFront-whole, IsFront-nil}
+use Rattle.ecr_model.specs.Example.{first_bytes, first_request, the_end, AFirstCreationIsAnswered, AFirstRequestIsRead, AFirstSessionIsWritten}
+use Rattle.ecr_model.proofs.FrontLemmas.{IsFront-body, IsFront-nil}
 
 -- ---- its answer
 
 pub a_first_creation_is_answered : AFirstCreationIsAnswered
-unfolding written asked_of asks_for creation document step json_reply json_head repository_body repository_data is_name utf8_or_empty arn_of uri_of utf8_valid_len is_utf8 chars digits serde_json_on_literals
+unfolding written asked_at is_json_call site_for named_site without_port says_close creation document step reply_text json_head connection_line repository_body repository_data is_name utf8_or_empty arn_of uri_of utf8_valid_len is_utf8 chars digits serde_json_on_literals
 a_first_creation_is_answered = refl
 
 pub a_first_session_is_written : AFirstSessionIsWritten
-unfolding replies written left_by asked_of asks_for creation document step json_reply json_head repository_body repository_data is_name utf8_or_empty arn_of uri_of utf8_valid_len is_utf8 chars digits serde_json_on_literals
+unfolding replies interim waits framing_of max_body written left_by asked_at is_json_call site_for named_site without_port says_close creation document step reply_text json_head connection_line repository_body repository_data is_name utf8_or_empty arn_of uri_of utf8_valid_len is_utf8 chars digits serde_json_on_literals
 a_first_session_is_written = ((record { at_most = lit≤ tt; all = λ served. refl }, tt), refl)
 
 -- ---- where its head ends
@@ -61,7 +65,7 @@ no_earlier_end : no_end_below first_bytes 125 ≡ true
 unfolding ends_empty
 no_earlier_end = refl
 
-head_length : IsHeadLength first_bytes 125
+head_length : IsEnd max_head first_bytes 125
 unfolding max_head
 head_length = record {
   within = omega arith;
@@ -134,21 +138,34 @@ is_grammar = record {
       (All-cons IsField target_line [] is_target_line (All-nil IsField)));
 }
 
-head_parses : Parses (take 125 first_bytes) (Some first_request.head)
-unfolding grammar host_line length_line target_line print_request trim_ows
+first_head : Head
+first_head = head_part first_request
+
+head_parses : Parses (take 125 first_bytes) (Some first_head)
+unfolding first_head grammar host_line length_line target_line print_request trim_ows
 head_parses = (grammar, (is_grammar, refl), refl)
 
-head_states : body_length first_request.head ≡ Some 29
-unfolding body_length is_served max_body
+head_states : framing_of first_head ≡ Some (Sized 29)
+unfolding first_head framing_of
 head_states = refl
+
+body_stands : IsBody (max_body first_head.target) (drop 125 first_bytes) (Sized 29) (complete first_request.body 29)
+unfolding first_head max_body
+body_stands = refl
 
 -- ---- the reading
 
 front : IsFront 0 first_bytes (whole first_request 154)
-front = IsFront-whole 0 first_bytes 125 first_request.head 29 head_length head_parses head_states (omega arith)
+unfolding first_head
+front = IsFront-body 0 first_bytes 125 first_head (Sized 29) (complete first_request.body 29) head_length head_parses head_states body_stands
 
-stops : Stops true 154 [] ended
-stops = record { front = open_ false; stands = IsFront-nil 154; is = refl }
+last : Point
+last = record { at = 154; ahead = []; closed = false }
+
+stops : Stops true last the_end
+unfolding last
+stops = record { front = short false open_; meets = IsFront-nil 154; is = refl }
 
 pub a_first_request_is_read : AFirstRequestIsRead
-a_first_request_is_read = record { there = 154; rest = []; begins = (154, front, (refl, refl)); stops = stops }
+unfolding last says_close
+a_first_request_is_read = record { point = last; begins = (refl, 154, front, refl); stops = stops }

@@ -1,11 +1,11 @@
--- A buffer has one first head, whose length and meaning stay when more bytes come.
+-- Bytes have one first empty line, and a head one meaning, which stay when more bytes come.
 use Rattle.std.proofs.Common.{◌≡◌, ℕ, zero, suc, ◌-◌, ◌<◌, ◌≤◌, min, List, [], ◌++◌, length, Option, Some, None, slice_index, refl, sym, ap, ◌∙◌, ⊎_elim, arith, length-append}
 use Rattle.std.proofs.lemmas.Bool.{both_ways, cases_order}
 use Rattle.std.proofs.lemmas.List.{get_or_append_left}
 use Rattle.httparse.proofs.GrammarLemmas.{request_unique}
 use Rattle.ecr_model.specs.declared.http.Head.{Head}
 use Rattle.ecr_model.specs.Fields.{head_of}
-use Rattle.ecr_model.specs.Framing.{max_head, ends_empty, IsHeadLength, HasNoEnd, EndsAt, Parses}
+use Rattle.ecr_model.specs.Framing.{ends_empty, IsEnd, HasNoEnd, EndsAt, Parses}
 
 pub ends_empty-append : (bytes more : List ℕ) (n : ℕ) → n ≤ length bytes
     → ends_empty (bytes ++ more) n ≡ ends_empty bytes n
@@ -21,8 +21,8 @@ ends_empty-append bytes more (suc (suc k)) within =
     get_or_append_left bytes more 0 (suc (suc k) - 3) (omega arith) in
     cc
 
-pub IsHeadLength-append : (bytes more : List ℕ) (n : ℕ) → IsHeadLength bytes n → IsHeadLength (bytes ++ more) n
-IsHeadLength-append bytes more n is = record {
+pub IsEnd-append : (limit : ℕ) (bytes more : List ℕ) (n : ℕ) → IsEnd limit bytes n → IsEnd limit (bytes ++ more) n
+IsEnd-append limit bytes more n is = record {
   within = omega (arith, length-append bytes more, is.within);
   not_long = is.not_long;
   ends = ends_empty-append bytes more n is.within ∙ is.ends;
@@ -36,25 +36,25 @@ HasNoEnd-append bytes more n within none_ends k below =
     let inside : k ≤ length bytes = omega arith in ends_empty-append bytes more k inside ∙ none_ends k below
 
 -- an empty line takes two bytes at least
-pub IsHeadLength-positive : (bytes : List ℕ) (n : ℕ) → IsHeadLength bytes n → 0 < n
+pub IsEnd-positive : (limit : ℕ) (bytes : List ℕ) (n : ℕ) → IsEnd limit bytes n → 0 < n
 unfolding ends_empty
-IsHeadLength-positive bytes zero is = absurd (cc (is.ends))
-IsHeadLength-positive bytes (suc n) is = omega arith
+IsEnd-positive limit bytes zero is = absurd (cc (is.ends))
+IsEnd-positive limit bytes (suc n) is = omega arith
 
-pub IsHeadLength-unique : (bytes : List ℕ) (n m : ℕ) → IsHeadLength bytes n → IsHeadLength bytes m → n ≡ m
-IsHeadLength-unique bytes n m a b = ⊎_elim (λ same. same)
+pub IsEnd-unique : (limit : ℕ) (bytes : List ℕ) (n m : ℕ) → IsEnd limit bytes n → IsEnd limit bytes m → n ≡ m
+IsEnd-unique limit bytes n m a b = ⊎_elim (λ same. same)
     (⊎_elim (λ below. absurd (both_ways _ (b.first n below) a.ends)) (λ above. absurd (both_ways _ (a.first m above) b.ends)))
     (cases_order n m)
 
-pub EndsAt-unique : (bytes : List ℕ) (a b : Option ℕ) → EndsAt bytes a → EndsAt bytes b → a ≡ b
-EndsAt-unique bytes None None a b = refl
-EndsAt-unique bytes None (Some m) a b =
-    let inside : m ≤ min (length bytes) max_head = omega (arith, b.within, b.not_long) in
+pub EndsAt-unique : (limit : ℕ) (bytes : List ℕ) (a b : Option ℕ) → EndsAt limit bytes a → EndsAt limit bytes b → a ≡ b
+EndsAt-unique limit bytes None None a b = refl
+EndsAt-unique limit bytes None (Some m) a b =
+    let inside : m ≤ min (length bytes) limit = omega (arith, b.within, b.not_long) in
     absurd (both_ways _ (a m inside) b.ends)
-EndsAt-unique bytes (Some n) None a b =
-    let inside : n ≤ min (length bytes) max_head = omega (arith, a.within, a.not_long) in
+EndsAt-unique limit bytes (Some n) None a b =
+    let inside : n ≤ min (length bytes) limit = omega (arith, a.within, a.not_long) in
     absurd (both_ways _ (b n inside) a.ends)
-EndsAt-unique bytes (Some n) (Some m) a b = ap Some (IsHeadLength-unique bytes n m a b)
+EndsAt-unique limit bytes (Some n) (Some m) a b = ap Some (IsEnd-unique limit bytes n m a b)
 
 pub Parses-unique : (bytes : List ℕ) (a b : Option Head) → Parses bytes a → Parses bytes b → a ≡ b
 Parses-unique bytes None None a b = refl

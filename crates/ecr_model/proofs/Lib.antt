@@ -2,8 +2,12 @@ pub mod NamesLemmas
 pub mod DigestsLemmas
 pub mod SitesLemmas
 pub mod FramingLemmas
+pub mod ChunkLemmas
+pub mod PartLemmas
+pub mod FrontLemmas
 pub mod StreamLemmas
 pub mod SessionLemmas
 pub mod EndLemmas
 pub mod ExampleLemmas
+pub mod ChunkExampleLemmas
 pub mod CommandLemmas

@@ -1,255 +1,25 @@
--- What stands at the front of a buffer, and how that goes on when more bytes come.
-use Rattle.std.proofs.Common.{◌≡◌, ℕ, zero, suc, ◌+◌, ◌<◌, ◌≤◌, min, Bool, true, false, cond, ◌==◌, List, [], ◌∷◌, ◌++◌, length, take, drop, Option, Some, None, nat_lt, nat_le, if◌then◌else◌, refl, sym, ap, ◌∙◌, subst, subst₂, ap₂, ⊎_elim, arith, length-append, length-drop}
-use Rattle.std.proofs.lemmas.Bool.{lt-ltb, le-ltb, le-leb, lt-leb, leb-true, ltb-false, cond-false, ne_eqb, cases_lt}
-use Rattle.std.proofs.lemmas.List.{take-append-le, drop-append-le, drop_all}
+-- Points of a stream, the requests between them, and what follows them.
+use Rattle.std.proofs.Common.{◌≡◌, ℕ, zero, suc, ◌+◌, ◌<◌, ◌≤◌, Bool, true, false, cond, ◌==◌, List, [], ◌∷◌, ◌++◌, length, take, drop, Option, Some, None, if◌then◌else◌, refl, sym, ap, ◌∙◌, subst, ap₂, ⊎_elim, arith, length-append, length-drop, append-nil}
+use Rattle.std.proofs.lemmas.Bool.{cond-false, ne_eqb, cases_lt}
+use Rattle.std.proofs.lemmas.List.{drop-append-le, take-append-le, drop_all}
 use Rattle.std.proofs.lemmas.List.Sums.{prefix_len-le-length}
 use Rattle.std.proofs.lemmas.List.Folds.{prefix_len-append}
-use Rattle.ecr_model.specs.declared.http.Head.{Head}
 use Rattle.ecr_model.specs.declared.http.Request.{Request}
-use Rattle.ecr_model.specs.Framing.{max_head, ends_empty, IsHeadLength, HasNoEnd, EndsAt, Parses, body_length}
-use Rattle.ecr_model.specs.Stream.{is_blank, blank_length, Front, whole, bad, too_long, open_, framed, front_of, ParsesTo, IsFront, Begins, Tail, ended, truncated, bad_at, tail_of, Stops, Reads}
-use Rattle.ecr_model.proofs.FramingLemmas.{IsHeadLength-append, HasNoEnd-append, IsHeadLength-positive, EndsAt-unique, Parses-unique}
-
--- ---- from what is known of the bytes to their front
-
-pub IsFront-no_head : (at : ℕ) (bytes : List ℕ) → HasNoEnd bytes (length bytes) → length bytes < max_head
-    → IsFront at bytes (open_ false)
-IsFront-no_head at bytes none_ends short = record {
-  end = None;
-  head = None;
-  ends = λ k below. let inside : k ≤ length bytes = omega arith in none_ends k inside;
-  parses = refl;
-  is = rw (lt-ltb (length bytes) max_head short) refl;
-}
-
-pub IsFront-nil : (at : ℕ) → IsFront at [] (open_ false)
-unfolding max_head ends_empty
-IsFront-nil at = IsFront-no_head at [] none_ends (omega arith)
-  where
-    none_ends : HasNoEnd [] 0
-    none_ends zero below = refl
-    none_ends (suc k) below = absurd (omega arith)
-
-pub IsFront-long : (at : ℕ) (bytes : List ℕ) → HasNoEnd bytes (min (length bytes) max_head) → max_head ≤ length bytes
-    → IsFront at bytes bad
-IsFront-long at bytes none_ends long = record {
-  end = None;
-  head = None;
-  ends = none_ends;
-  parses = refl;
-  is = rw (le-ltb (length bytes) max_head long) refl;
-}
-
-pub IsFront-no_grammar : (at : ℕ) (bytes : List ℕ) (n : ℕ) → IsHeadLength bytes n → Parses (take n bytes) None
-    → IsFront at bytes bad
-IsFront-no_grammar at bytes n ends parses =
-    record { end = Some n; head = None; ends = ends; parses = parses; is = refl }
-
-pub IsFront-not_served : (at : ℕ) (bytes : List ℕ) (n : ℕ) (head : Head) → IsHeadLength bytes n
-    → Parses (take n bytes) (Some head) → body_length head ≡ None → IsFront at bytes bad
-IsFront-not_served at bytes n head ends parses none_served =
-    record { end = Some n; head = Some head; ends = ends; parses = parses; is = rw none_served refl }
-
-pub IsFront-open : (at : ℕ) (bytes : List ℕ) (n : ℕ) (head : Head) (size : ℕ) → IsHeadLength bytes n
-    → Parses (take n bytes) (Some head) → body_length head ≡ Some size → length bytes < n + size
-    → IsFront at bytes (open_ false)
-IsFront-open at bytes n head size ends parses stated short = record {
-  end = Some n;
-  head = Some head;
-  ends = ends;
-  parses = parses;
-  is = rw (stated, lt-leb (n + size) (length bytes) short) refl;
-}
-
-pub IsFront-whole : (at : ℕ) (bytes : List ℕ) (n : ℕ) (head : Head) (size : ℕ) → IsHeadLength bytes n
-    → Parses (take n bytes) (Some head) → body_length head ≡ Some size → n + size ≤ length bytes
-    → IsFront at bytes (whole (record { at = at; head = head; body = take size (drop n bytes) }) (n + size))
-IsFront-whole at bytes n head size ends parses stated there = record {
-  end = Some n;
-  head = Some head;
-  ends = ends;
-  parses = parses;
-  is = rw (stated, le-leb (n + size) (length bytes) there) refl;
-}
-
-pub Parses-append : (bytes more : List ℕ) (n : ℕ) (head : Option Head) → n ≤ length bytes
-    → Parses (take n bytes) head → Parses (take n (bytes ++ more)) head
-Parses-append bytes more n head within parses = rw (take-append-le n bytes more within) parses
-
--- a body that has not all come yet, by what was known before the last bytes
-pub IsFront-short : (at : ℕ) (bytes more : List ℕ) (n : ℕ) (head : Head) (size : ℕ) → IsHeadLength bytes n
-    → Parses (take n bytes) (Some head) → body_length head ≡ Some size → length (bytes ++ more) < n + size
-    → IsFront at (bytes ++ more) (open_ false)
-IsFront-short at bytes more n head size ends parses stated short =
-    IsFront-open at (bytes ++ more) n head size (IsHeadLength-append bytes more n ends)
-    (Parses-append bytes more n (Some head) ends.within parses) stated short
-
--- ---- and back
-
--- how a whole request stands there
-pub record WholeBy (at : ℕ) (bytes : List ℕ) (r : Request) (n : ℕ) : Type 0 where
-  pub end : ℕ
-  pub head : Head
-  pub size : ℕ
-  pub ends : IsHeadLength bytes end
-  pub parses : Parses (take end bytes) (Some head)
-  pub stated : body_length head ≡ Some size
-  pub there : end + size ≤ length bytes
-  pub request : r ≡ record { at = at; head = head; body = take size (drop end bytes) }
-  pub counts : n ≡ end + size
-
--- why no request can stand there
-pub data BadBy (bytes : List ℕ) : Type 0 where
-  by_length : HasNoEnd bytes (min (length bytes) max_head) → max_head ≤ length bytes → BadBy bytes
-  by_grammar : (n : ℕ) → IsHeadLength bytes n → Parses (take n bytes) None → BadBy bytes
-  by_service : (n : ℕ) (head : Head) → IsHeadLength bytes n → Parses (take n bytes) (Some head)
-      → body_length head ≡ None → BadBy bytes
-
-not_whole : (b : Bool) (r : Request) (n : ℕ) → whole r n ≡ (if b then open_ false else bad) → ⊥
-not_whole true r n is = cc
-not_whole false r n is = cc
-
-whole_if : (b : Bool) (r s : Request) (n m : ℕ) → whole r n ≡ (if b then whole s m else open_ false)
-    → (b ≡ true) × (r ≡ s) × (n ≡ m)
-whole_if true r s n m is = (refl, cc, cc)
-whole_if false r s n m is = absurd (cc)
-
-framed_whole : (at : ℕ) (bytes : List ℕ) (end : ℕ) (head : Head) (r : Request) (n : ℕ) (size : Option ℕ)
-    → body_length head ≡ size → IsHeadLength bytes end → Parses (take end bytes) (Some head)
-    → whole r n ≡ framed at bytes end head size → WholeBy at bytes r n
-framed_whole at bytes end head r n None stated ends parses is = absurd (cc)
-framed_whole at bytes end head r n (Some size) stated ends parses is =
-    let parts = whole_if (nat_le (end + size) (length bytes)) r
-    (record { at = at; head = head; body = take size (drop end bytes) }) n (end + size) is in
-    record {
-      end = end;
-      head = head;
-      size = size;
-      ends = ends;
-      parses = parses;
-      stated = stated;
-      there = leb-true (end + size) (length bytes) parts.0;
-      request = parts.1;
-      counts = parts.2;
-    }
-
-front_whole : (at : ℕ) (bytes : List ℕ) (end : Option ℕ) (head : Option Head) (r : Request) (n : ℕ)
-    → EndsAt bytes end → ParsesTo bytes end head → whole r n ≡ front_of at bytes end head → WholeBy at bytes r n
-front_whole at bytes None head r n ends parses is = absurd (not_whole (nat_lt (length bytes) max_head) r n is)
-front_whole at bytes (Some end) None r n ends parses is = absurd (cc)
-front_whole at bytes (Some end) (Some head) r n ends parses is =
-    framed_whole at bytes end head r n (body_length head) refl ends parses is
-
-pub WholeBy-from_front : (at : ℕ) (bytes : List ℕ) (r : Request) (n : ℕ) → IsFront at bytes (whole r n)
-    → WholeBy at bytes r n
-WholeBy-from_front at bytes r n front = front_whole at bytes front.end front.head r n front.ends front.parses front.is
-
-pub IsFront-from_whole : (at : ℕ) (bytes : List ℕ) (r : Request) (n : ℕ) → WholeBy at bytes r n
-    → IsFront at bytes (whole r n)
-IsFront-from_whole at bytes r n by =
-    rw (by.request, by.counts) (IsFront-whole at bytes by.end by.head by.size by.ends by.parses by.stated by.there)
-
-bad_if : (b : Bool) → bad ≡ (if b then open_ false else bad) → b ≡ false
-bad_if true is = absurd (cc)
-bad_if false is = refl
-
-not_bad : (b : Bool) (r : Request) (n : ℕ) → bad ≡ (if b then whole r n else open_ false) → ⊥
-not_bad true r n is = cc
-not_bad false r n is = cc
-
-framed_bad : (at : ℕ) (bytes : List ℕ) (end : ℕ) (head : Head) (size : Option ℕ)
-    → bad ≡ framed at bytes end head size → size ≡ None
-framed_bad at bytes end head None is = refl
-framed_bad at bytes end head (Some size) is = absurd (not_bad (nat_le (end + size) (length bytes)) _ _ is)
-
-front_bad : (at : ℕ) (bytes : List ℕ) (end : Option ℕ) (head : Option Head)
-    → EndsAt bytes end → ParsesTo bytes end head → bad ≡ front_of at bytes end head → BadBy bytes
-front_bad at bytes None head ends parses is =
-    by_length ends (ltb-false (length bytes) max_head (bad_if (nat_lt (length bytes) max_head) is))
-front_bad at bytes (Some end) None ends parses is = by_grammar end ends parses
-front_bad at bytes (Some end) (Some head) ends parses is =
-    by_service end head ends parses (framed_bad at bytes end head (body_length head) is)
-
-pub BadBy-from_front : (at : ℕ) (bytes : List ℕ) → IsFront at bytes bad → BadBy bytes
-BadBy-from_front at bytes front = front_bad at bytes front.end front.head front.ends front.parses front.is
-
-pub IsFront-from_bad : (at : ℕ) (bytes : List ℕ) → BadBy bytes → IsFront at bytes bad
-IsFront-from_bad at bytes (by_length ends long) = IsFront-long at bytes ends long
-IsFront-from_bad at bytes (by_grammar n ends parses) = IsFront-no_grammar at bytes n ends parses
-IsFront-from_bad at bytes (by_service n head ends parses none_served) =
-    IsFront-not_served at bytes n head ends parses none_served
-
--- ---- the laws of a front
-
-ParsesTo-unique : (bytes : List ℕ) (end : Option ℕ) (a b : Option Head) → ParsesTo bytes end a → ParsesTo bytes end b
-    → a ≡ b
-ParsesTo-unique bytes None a b x y = x ∙ sym y
-ParsesTo-unique bytes (Some n) a b x y = Parses-unique (take n bytes) a b x y
-
-pub IsFront-unique : (at : ℕ) (bytes : List ℕ) (f g : Front) → IsFront at bytes f → IsFront at bytes g → f ≡ g
-IsFront-unique at bytes f g a b =
-    let same : a.end ≡ b.end = EndsAt-unique bytes a.end b.end a.ends b.ends in
-    let heads : a.head ≡ b.head = ParsesTo-unique bytes a.end a.head b.head a.parses
-    (subst (λ (e : Option ℕ). ParsesTo bytes e b.head) (sym same) b.parses) in
-    a.is ∙ ap (λ (e : Option ℕ). front_of at bytes e a.head) same
-    ∙ ap (λ (h : Option Head). front_of at bytes b.end h) heads ∙ sym b.is
-
-pub IsFront-whole_length : (at : ℕ) (bytes : List ℕ) (r : Request) (n : ℕ) → IsFront at bytes (whole r n)
-    → (0 < n) × (n ≤ length bytes)
-IsFront-whole_length at bytes r n front =
-    let by = WholeBy-from_front at bytes r n front in
-    let some_bytes : 0 < by.end = IsHeadLength-positive bytes by.end by.ends in
-    (omega (arith, by.counts), omega (arith, by.counts, by.there))
-
-WholeBy-append : (at : ℕ) (bytes more : List ℕ) (r : Request) (n : ℕ) → WholeBy at bytes r n
-    → WholeBy at (bytes ++ more) r n
-WholeBy-append at bytes more r n by =
-    let within : by.end ≤ length bytes = by.ends.within in
-    let room : by.size ≤ length (drop by.end bytes) = omega (arith, length-drop by.end bytes, by.there) in
-    let body : take by.size (drop by.end (bytes ++ more)) ≡ take by.size (drop by.end bytes) =
-    ap (take by.size) (drop-append-le by.end bytes more within) ∙ take-append-le by.size (drop by.end bytes) more room in
-    record {
-      end = by.end;
-      head = by.head;
-      size = by.size;
-      ends = IsHeadLength-append bytes more by.end by.ends;
-      parses = Parses-append bytes more by.end (Some by.head) within by.parses;
-      stated = by.stated;
-      there = omega (arith, length-append bytes more, by.there);
-      request = rw body by.request;
-      counts = by.counts;
-    }
-
-pub IsFront-append : (at : ℕ) (bytes more : List ℕ) (r : Request) (n : ℕ) → IsFront at bytes (whole r n)
-    → IsFront at (bytes ++ more) (whole r n)
-IsFront-append at bytes more r n front =
-    IsFront-from_whole at (bytes ++ more) r n (WholeBy-append at bytes more r n (WholeBy-from_front at bytes r n front))
-
-BadBy-append : (bytes more : List ℕ) → BadBy bytes → BadBy (bytes ++ more)
-BadBy-append bytes more (by_length ends long) =
-    let total : max_head ≤ length (bytes ++ more) = omega (arith, length-append bytes more) in
-    let most : min (length bytes) max_head ≡ max_head = omega arith in
-    let all : min (length (bytes ++ more)) max_head ≡ max_head = omega arith in
-    by_length (rw all (HasNoEnd-append bytes more max_head long (rw most at ends))) total
-BadBy-append bytes more (by_grammar n ends parses) =
-    by_grammar n (IsHeadLength-append bytes more n ends) (Parses-append bytes more n None ends.within parses)
-BadBy-append bytes more (by_service n head ends parses none_served) =
-    by_service n head (IsHeadLength-append bytes more n ends) (Parses-append bytes more n (Some head) ends.within parses)
-    none_served
-
-pub IsFront-append_bad : (at : ℕ) (bytes more : List ℕ) → IsFront at bytes bad → IsFront at (bytes ++ more) bad
-IsFront-append_bad at bytes more front =
-    IsFront-from_bad at (bytes ++ more) (BadBy-append bytes more (BadBy-from_front at bytes front))
+use Rattle.ecr_model.specs.Framing.{max_head}
+use Rattle.ecr_model.specs.Stream.{is_blank, blank_length, Lack, bad, too_long, open_, Front, whole, short, IsFront, Point, start, grown, past_blank, Meets, AwaitsBody, closes, past, Begins, Ending, ended, closed, truncated, bad_at, long_at, more, Tail, ending_of, tail_of, Lacks, StopsBy, Stops, Reads}
+use Rattle.ecr_model.specs.StreamLaws.{is_last, RequestsAreDetermined, AnEndStays, ACutChangesNothing}
+use Rattle.ecr_model.proofs.FramingLemmas.{IsEnd-append, IsEnd-positive}
+use Rattle.ecr_model.proofs.FrontLemmas.{is_settled, is_settled_lack, IsFront-nil, IsFront-unique, IsFront-whole_length, IsFront-append, Parses-append}
 
 -- ---- blank bytes
 
 pub blank_length-le : (bytes : List ℕ) → blank_length bytes ≤ length bytes
 blank_length-le bytes = prefix_len-le-length is_blank bytes
 
-pub blank_length-append : (bytes more : List ℕ) → blank_length bytes < length bytes
-    → blank_length (bytes ++ more) ≡ blank_length bytes
-blank_length-append bytes more before =
-    prefix_len-append is_blank bytes more
+pub blank_length-append : (bytes others : List ℕ) → blank_length bytes < length bytes
+    → blank_length (bytes ++ others) ≡ blank_length bytes
+blank_length-append bytes others before =
+    prefix_len-append is_blank bytes others
     ∙ cond-false _ _ _ (ne_eqb (blank_length bytes) (length bytes) (λ same. omega arith))
 
 pub blank_length-drop : (bytes : List ℕ) (s : ℕ) → s ≤ blank_length bytes
@@ -274,175 +44,235 @@ blank_length-skipped bytes =
     blank_length-drop bytes (blank_length bytes) (omega arith) in
     omega arith
 
+-- ---- points
+
+-- where it is said what comes next, a byte follows the blank ones
+pub Meets-some : (p : Point) (front : Front) → is_settled front ≡ true → Meets p front
+    → blank_length p.ahead < length p.ahead
+Meets-some p front settled meets = ⊎_elim (λ before. before) (λ past. absurd (empty past))
+    (cases_lt (blank_length p.ahead) (length p.ahead))
+  where
+    empty : length p.ahead ≤ blank_length p.ahead → ⊥
+    empty past =
+        let nothing : drop (blank_length p.ahead) p.ahead ≡ [] = drop_all (blank_length p.ahead) p.ahead past in
+        let clash : front ≡ short false open_ = IsFront-unique (past_blank p).at [] front (short false open_)
+        (subst (λ (x : List ℕ). IsFront (past_blank p).at x front) nothing meets) (IsFront-nil (past_blank p).at) in
+        let none : is_settled (short false open_) ≡ true = sym (ap is_settled clash) ∙ settled in
+        cc
+
+abbrev point : ℕ → List ℕ → Bool → Point
+point at ahead shut = record { at = at; ahead = ahead; closed = shut }
+
+-- a point by its parts
+point_by : (a b : ℕ) (x y : List ℕ) (c : Bool) → a ≡ b → x ≡ y
+    → point a x c ≡ point b y c
+point_by a b x y c places bytes =
+    ap₂ (λ (k : ℕ) (l : List ℕ). point k l c) places bytes
+
+pub past_blank-grown : (p : Point) (others : List ℕ) → blank_length p.ahead < length p.ahead
+    → past_blank (grown p others) ≡ grown (past_blank p) others
+past_blank-grown p others before =
+    let blanks : blank_length (p.ahead ++ others) ≡ blank_length p.ahead = blank_length-append p.ahead others before in
+    let all : blank_length p.ahead ≤ length p.ahead = omega arith in
+    point_by (p.at + blank_length (p.ahead ++ others)) (p.at + blank_length p.ahead)
+    (drop (blank_length (p.ahead ++ others)) (p.ahead ++ others)) (drop (blank_length p.ahead) p.ahead ++ others) p.closed
+    (ap (λ (k : ℕ). p.at + k) blanks)
+    (ap (λ (k : ℕ). drop k (p.ahead ++ others)) blanks ∙ drop-append-le (blank_length p.ahead) p.ahead others all)
+
+pub Meets-append : (p : Point) (others : List ℕ) (front : Front) → is_settled front ≡ true → Meets p front
+    → Meets (grown p others) front
+Meets-append p others front settled meets =
+    subst (λ (q : Point). IsFront q.at q.ahead front) (sym (past_blank-grown p others (Meets-some p front settled meets)))
+    (IsFront-append (past_blank p).at (past_blank p).ahead others front settled meets)
+
+pub AwaitsBody-append : (p : Point) (others : List ℕ) → AwaitsBody p → AwaitsBody (grown p others)
+AwaitsBody-append p others waits =
+    let within : waits.end ≤ length (past_blank p).ahead = waits.ends.within in
+    let some : 0 < waits.end = IsEnd-positive max_head (past_blank p).ahead waits.end waits.ends in
+    let before : blank_length p.ahead < length p.ahead = omega (arith, length-drop (blank_length p.ahead) p.ahead) in
+    let bytes : (past_blank (grown p others)).ahead ≡ (past_blank p).ahead ++ others =
+    ap (λ (q : Point). q.ahead) (past_blank-grown p others before) in
+    record {
+      end = waits.end;
+      head = waits.head;
+      ends = rw bytes (IsEnd-append max_head (past_blank p).ahead others waits.end waits.ends);
+      parses = rw bytes (Parses-append (past_blank p).ahead others waits.end (Some waits.head) within waits.parses);
+      waiting = waits.waiting;
+    }
+
+pub Meets-unique : (p : Point) (f g : Front) → Meets p f → Meets p g → f ≡ g
+Meets-unique p f g a b = IsFront-unique (past_blank p).at (past_blank p).ahead f g a b
+
+pub Meets-length : (p : Point) (r : Request) (n : ℕ) → Meets p (whole r n) → (0 < n) × (n ≤ length (past_blank p).ahead)
+Meets-length p r n meets = IsFront-whole_length (past_blank p).at (past_blank p).ahead r n meets
+
+past-grown : (p : Point) (others : List ℕ) (r : Request) (n : ℕ) → Meets p (whole r n)
+    → past (grown p others) r n ≡ grown (past p r n) others
+past-grown p others r n meets =
+    let same : past_blank (grown p others) ≡ grown (past_blank p) others =
+    past_blank-grown p others (Meets-some p (whole r n) refl meets) in
+    ap (λ (q : Point). point (q.at + n) (drop n q.ahead) (closes r)) same
+    ∙ ap (λ (l : List ℕ). point ((past_blank p).at + n) l (closes r))
+    (drop-append-le n (past_blank p).ahead others (Meets-length p r n meets).1)
+
+pub past_blank-length : (p : Point) → (past_blank p).at + length (past_blank p).ahead ≡ p.at + length p.ahead
+past_blank-length p =
+    let within : blank_length p.ahead ≤ length p.ahead = blank_length-le p.ahead in
+    omega (arith, length-drop (blank_length p.ahead) p.ahead)
+
 -- ---- several requests
 
--- one more request at the front, over names for what is computed
-Begins_cons : (at : ℕ) (bytes : List ℕ) (r : Request) (rs : List Request) (there : ℕ) (rest : List ℕ) (blank n : ℕ)
-    (front after : List ℕ) → blank_length bytes ≡ blank → drop blank bytes ≡ front → drop n front ≡ after
-    → IsFront (at + blank) front (whole r n) → Begins (at + blank + n) after rs there rest
-    → Begins at bytes (r ∷ rs) there rest
-Begins_cons at bytes r rs there rest blank n front after blanks fronts afters stands begins =
-    let inside : drop (blank_length bytes) bytes ≡ front = ap (λ (k : ℕ). drop k bytes) blanks ∙ fronts in
-    let behind : drop n (drop (blank_length bytes) bytes) ≡ after = ap (drop n) inside ∙ afters in (
-      n,
-      subst₂ (λ (k : ℕ) (f : List ℕ). IsFront (at + k) f (whole r n)) (sym blanks) (sym inside) stands,
-      subst₂ (λ (k : ℕ) (f : List ℕ). Begins (at + k + n) f rs there rest) (sym blanks) (sym behind) begins,
-    )
-
--- where a whole request stands, a byte follows the blank ones
-front_after_blank : (at : ℕ) (bytes : List ℕ) (r : Request) (n : ℕ)
-    → IsFront at (drop (blank_length bytes) bytes) (whole r n) → blank_length bytes < length bytes
-front_after_blank at bytes r n front =
-    let some : (0 < n) × (n ≤ length (drop (blank_length bytes) bytes)) =
-    IsFront-whole_length at (drop (blank_length bytes) bytes) r n front in
-    omega (arith, length-drop (blank_length bytes) bytes)
-
-pub Begins-append : (at : ℕ) (bytes more : List ℕ) (rs : List Request) (there : ℕ) (rest : List ℕ)
-    → Begins at bytes rs there rest → Begins at (bytes ++ more) rs there (rest ++ more)
-Begins-append at bytes more [] there rest begins = (begins.0, ap (λ (x : List ℕ). x ++ more) begins.1)
-Begins-append at bytes more (r ∷ rs) there rest begins =
-    let blank = blank_length bytes in
-    let n : ℕ = begins.0 in
-    let front = drop blank bytes in
-    let before : blank_length bytes < length bytes = front_after_blank (at + blank) bytes r n begins.1 in
-    let all : blank_length bytes ≤ length bytes = omega arith in
-    let some : (0 < n) × (n ≤ length front) = IsFront-whole_length (at + blank) front r n begins.1 in
-    Begins_cons at (bytes ++ more) r rs there (rest ++ more) blank n (front ++ more) (drop n front ++ more)
-    (blank_length-append bytes more before) (drop-append-le blank bytes more all) (drop-append-le n front more some.1)
-    (IsFront-append (at + blank) front more r n begins.1)
-    (Begins-append (at + blank + n) (drop n front) more rs there rest begins.2)
-
-pub Begins-more : (at : ℕ) (bytes : List ℕ) (rs : List Request) (there : ℕ) (rest : List ℕ) (r : Request) (n : ℕ)
-    → Begins at bytes rs there rest → IsFront (there + blank_length rest) (drop (blank_length rest) rest) (whole r n)
-    → Begins at bytes (rs ++ r ∷ []) (there + blank_length rest + n) (drop n (drop (blank_length rest) rest))
-Begins-more at bytes [] there rest r n begins front =
-    subst₂
-    (λ (a : ℕ) (b : List ℕ). Begins a b (r ∷ []) (there + blank_length rest + n) (drop n (drop (blank_length rest) rest)))
-    begins.0 begins.1 (n, front, (refl, refl))
-Begins-more at bytes (s ∷ rs) there rest r n begins front = (
+pub Begins-append : (p : Point) (others : List ℕ) (rs : List Request) (q : Point) → Begins p rs q
+    → Begins (grown p others) rs (grown q others)
+Begins-append p others [] q begins = ap (λ (x : Point). grown x others) begins
+Begins-append p others (r ∷ rs) q begins = (
   begins.0,
   begins.1,
-  Begins-more (at + blank_length bytes + begins.0) (drop begins.0 (drop (blank_length bytes) bytes)) rs there rest r n
-      begins.2 front,
+  Meets-append p others (whole r begins.1) refl begins.2,
+  subst (λ (x : Point). Begins x rs (grown q others)) (sym (past-grown p others r begins.1 begins.2))
+      (Begins-append (past p r begins.1) others rs q begins.3),
 )
 
-pub Begins-length : (at : ℕ) (bytes : List ℕ) (rs : List Request) (there : ℕ) (rest : List ℕ)
-    → Begins at bytes rs there rest → there + length rest ≡ at + length bytes
-Begins-length at bytes [] there rest begins = ap₂ (λ (a : ℕ) (b : List ℕ). a + length b) begins.0 begins.1
-Begins-length at bytes (r ∷ rs) there rest begins =
-    let blank = blank_length bytes in
-    let n : ℕ = begins.0 in
-    let front = drop blank bytes in
-    let before : blank_length bytes < length bytes = front_after_blank (at + blank) bytes r n begins.1 in
-    let some : (0 < n) × (n ≤ length front) = IsFront-whole_length (at + blank) front r n begins.1 in
-    let step : there + length rest ≡ at + blank + n + length (drop n front) =
-    Begins-length (at + blank + n) (drop n front) rs there rest begins.2 in
-    omega (arith, length-drop n front, length-drop blank bytes)
+pub Begins-more : (p : Point) (rs : List Request) (q : Point) (r : Request) (n : ℕ) → Begins p rs q → q.closed ≡ false
+    → Meets q (whole r n) → Begins p (rs ++ r ∷ []) (past q r n)
+Begins-more p [] q r n begins opened meets =
+    subst (λ (x : Point). Begins x (r ∷ []) (past q r n)) begins (opened, n, meets, refl)
+Begins-more p (s ∷ rs) q r n begins opened meets = (
+  begins.0,
+  begins.1,
+  begins.2,
+  Begins-more (past p s begins.1) rs q r n begins.3 opened meets,
+)
+
+pub Begins-length : (p : Point) (rs : List Request) (q : Point) → Begins p rs q
+    → q.at + length q.ahead ≡ p.at + length p.ahead
+Begins-length p [] q begins = ap (λ (x : Point). x.at + length x.ahead) begins
+Begins-length p (r ∷ rs) q begins =
+    let some : (0 < begins.1) × (begins.1 ≤ length (past_blank p).ahead) = Meets-length p r begins.1 begins.2 in
+    let step : q.at + length q.ahead ≡ (past_blank p).at + begins.1 + length (drop begins.1 (past_blank p).ahead) =
+    Begins-length (past p r begins.1) rs q begins.3 in
+    omega (arith, length-drop begins.1 (past_blank p).ahead, past_blank-length p)
 
 -- ---- one reading
 
-pub Stops-unique : (over : Bool) (there : ℕ) (rest : List ℕ) (a b : Tail) → Stops over there rest a → Stops over there rest b
-    → a ≡ b
-Stops-unique over there rest a b x y =
-    let place = there + blank_length rest in
-    let front = drop (blank_length rest) rest in
-    let same : x.front ≡ y.front = IsFront-unique place front x.front y.front x.stands y.stands in
-    let tails : Some a ≡ Some b = sym x.is ∙ ap (tail_of over place front) same ∙ y.is in
+Lacks-unique : (over : Bool) (p : Point) (a b : Tail) → Lacks over p a → Lacks over p b → a ≡ b
+Lacks-unique over p a b x y =
+    let same : x.front ≡ y.front = Meets-unique p x.front y.front x.meets y.meets in
+    let tails : Some a ≡ Some b = sym x.is ∙ ap (tail_of over (past_blank p)) same ∙ y.is in
     cc
+
+StopsBy-unique : (shut over : Bool) (p : Point) (a b : Tail) → StopsBy shut over p a → StopsBy shut over p b → a ≡ b
+StopsBy-unique true over p a b x y = x ∙ sym y
+StopsBy-unique false over p a b x y = Lacks-unique over p a b x y
+
+pub Stops-unique : (over : Bool) (p : Point) (a b : Tail) → Stops over p a → Stops over p b → a ≡ b
+Stops-unique over p a b x y = StopsBy-unique p.closed over p a b x y
 
 -- no request stands where the requests stop
-Stops_not_whole : (over : Bool) (there : ℕ) (rest : List ℕ) (tail : Tail) (r : Request) (n : ℕ)
-    → Stops over there rest tail
-    → IsFront (there + blank_length rest) (drop (blank_length rest) rest) (whole r n) → ⊥
-Stops_not_whole over there rest tail r n stops front =
-    let place = there + blank_length rest in
-    let bytes = drop (blank_length rest) rest in
-    let same : stops.front ≡ whole r n = IsFront-unique place bytes stops.front (whole r n) stops.stands front in
-    let none : None ≡ Some tail = sym (ap (tail_of over place bytes) same) ∙ stops.is in
+Stops_not_whole : (over : Bool) (p : Point) (tail : Tail) (r : Request) (n : ℕ) → Stops over p tail → p.closed ≡ false
+    → Meets p (whole r n) → ⊥
+Stops_not_whole over p tail r n stops opened meets =
+    let lacks : Lacks over p tail = subst (λ (shut : Bool). StopsBy shut over p tail) opened stops in
+    let same : lacks.front ≡ whole r n = Meets-unique p lacks.front (whole r n) lacks.meets meets in
+    let none : None ≡ Some tail = sym (ap (tail_of over (past_blank p)) same) ∙ lacks.is in
     cc
 
-readings : (at : ℕ) (bytes : List ℕ) (over : Bool) (rs ss : List Request) (t u : Tail) (a b : ℕ) (x y : List ℕ)
-    → Begins at bytes rs a x → Stops over a x t → Begins at bytes ss b y → Stops over b y u → (rs ≡ ss) × (t ≡ u)
-readings at bytes over [] [] t u a b x y begins stops others ends = (
-  refl,
-  Stops-unique over at bytes t u
-      (subst₂ (λ (p : ℕ) (z : List ℕ). Stops over p z t) begins.0 begins.1 stops)
-      (subst₂ (λ (p : ℕ) (z : List ℕ). Stops over p z u) others.0 others.1 ends),
-)
-readings at bytes over [] (s ∷ ss) t u a b x y begins stops others ends =
-    absurd (Stops_not_whole over at bytes t s others.0
-    (subst₂ (λ (p : ℕ) (z : List ℕ). Stops over p z t) begins.0 begins.1 stops) others.1)
-readings at bytes over (r ∷ rs) [] t u a b x y begins stops others ends =
-    absurd (Stops_not_whole over at bytes u r begins.0
-    (subst₂ (λ (p : ℕ) (z : List ℕ). Stops over p z u) others.0 others.1 ends) begins.1)
-readings at bytes over (r ∷ rs) (s ∷ ss) t u a b x y begins stops others ends =
-    let place = at + blank_length bytes in
-    let front = drop (blank_length bytes) bytes in
-    let n : ℕ = begins.0 in
-    let m : ℕ = others.0 in
-    let same : whole r n ≡ whole s m = IsFront-unique place front (whole r n) (whole s m) begins.1 others.1 in
-    let lengths : m ≡ n = cc in
-    let firsts : r ≡ s = cc in
-    let rest : (rs ≡ ss) × (t ≡ u) =
-    readings (place + n) (drop n front) over rs ss t u a b x y begins.2 stops
-    (subst (λ (k : ℕ). Begins (place + k) (drop k front) ss b y) lengths others.2) ends in
-    (ap₂ ◌∷◌ firsts rest.0, rest.1)
+-- the same request comes next
+same_next : (p : Point) (r s : Request) (n m : ℕ) → Meets p (whole r n) → Meets p (whole s m) → (s ≡ r) × (m ≡ n)
+same_next p r s n m a b =
+    let same : whole r n ≡ whole s m = Meets-unique p (whole r n) (whole s m) a b in (cc, cc)
 
-pub Reads-unique : (bytes : List ℕ) (over : Bool) (rs ss : List Request) (t u : Tail) → Reads bytes over rs t
-    → Reads bytes over ss u → (rs ≡ ss) × (t ≡ u)
+-- requests that were found stand at the front of all
+pub Begins-front : (p : Point) (over : Bool) (rs ss : List Request) (q w : Point) (tail : Tail) → Begins p rs q
+    → Begins p ss w → Stops over w tail → (later : List Request) × (ss ≡ rs ++ later) × Begins q later w
+Begins-front p over [] ss q w tail begins others stops =
+    (ss, refl, subst (λ (x : Point). Begins x ss w) (sym begins) others)
+Begins-front p over (r ∷ rs) [] q w tail begins others stops =
+    absurd (Stops_not_whole over p tail r begins.1 (subst (λ (x : Point). Stops over x tail) others stops) begins.0 begins.2)
+Begins-front p over (r ∷ rs) (s ∷ ss) q w tail begins others stops =
+    let same : (s ≡ r) × (others.1 ≡ begins.1) = same_next p r s begins.1 others.1 begins.2 others.2 in
+    let behind : past p s others.1 ≡ past p r begins.1 =
+    ap₂ (λ (x : Request) (k : ℕ). past p x k) same.0 same.1 in
+    let rest : (later : List Request) × (ss ≡ rs ++ later) × Begins q later w =
+    Begins-front (past p r begins.1) over rs ss q w tail begins.3
+    (subst (λ (x : Point). Begins x ss w) behind others.3) stops in
+    (rest.0, ap₂ ◌∷◌ same.0 rest.1, rest.2)
+
+-- where the requests stop, none follows
+none_later : (p : Point) (over : Bool) (later : List Request) (q : Point) (tail : Tail) → Begins p later q
+    → Stops over p tail → (later ≡ []) × (q ≡ p)
+none_later p over [] q tail begins stops = (refl, begins)
+none_later p over (r ∷ rs) q tail begins stops =
+    absurd (Stops_not_whole over p tail r begins.1 stops begins.0 begins.2)
+
+pub Reads-unique : RequestsAreDetermined
 Reads-unique bytes over rs ss t u x y =
-    readings 0 bytes over rs ss t u x.there y.there x.rest y.rest x.begins x.stops y.begins y.stops
+    let front : (later : List Request) × (ss ≡ rs ++ later) × Begins x.point later y.point =
+    Begins-front (start bytes) over rs ss x.point y.point u x.begins y.begins y.stops in
+    let none : (front.0 ≡ []) × (y.point ≡ x.point) = none_later x.point over front.0 y.point t front.2 x.stops in
+    let all : ss ≡ rs = front.1 ∙ ap (λ (l : List Request). rs ++ l) none.0 ∙ append-nil rs in (
+      sym all,
+      Stops-unique over x.point t u x.stops (subst (λ (p : Point). Stops over p u) none.1 y.stops),
+    )
 
--- ---- what is bad stays bad
+-- ---- what the bytes show is last stays last
 
-tail_is_bad : (over : Bool) (place : ℕ) (bytes : List ℕ) (front : Front) (p : ℕ)
-    → tail_of over place bytes front ≡ Some (bad_at p) → (front ≡ bad) × (place ≡ p)
-tail_is_bad over place bytes (whole r n) p is = absurd (cc)
-tail_is_bad over place bytes bad p is = (refl, cc)
-tail_is_bad over place bytes (too_long limit) p is = absurd (cc)
-tail_is_bad true place bytes (open_ due) p is = absurd (never (length bytes == 0) is)
+last_settled : (over : Bool) (p : Point) (lack : Lack) → is_last (ending_of over p lack) ≡ true → is_settled_lack lack ≡ true
+last_settled over p bad last = refl
+last_settled over p (too_long limit) last = refl
+last_settled false p open_ last = absurd (cc)
+last_settled true p open_ last = absurd (never (length p.ahead == 0) last)
   where
-    never : (empty : Bool) → (if empty then Some ended else Some (truncated place)) ≡ Some (bad_at p) → ⊥
+    never : (empty : Bool) → is_last (if empty then ended else truncated p.at) ≡ true → ⊥
     never true same = cc
     never false same = cc
-tail_is_bad false place bytes (open_ due) p is = absurd (cc)
 
-bad_after_blank : (at : ℕ) (bytes : List ℕ) → IsFront at (drop (blank_length bytes) bytes) bad
-    → blank_length bytes < length bytes
-bad_after_blank at bytes front = ⊎_elim (λ before. before) (λ past. absurd (empty past))
-    (cases_lt (blank_length bytes) (length bytes))
-  where
-    empty : length bytes ≤ blank_length bytes → ⊥
-    empty past =
-        let nothing : drop (blank_length bytes) bytes ≡ [] = drop_all (blank_length bytes) bytes past in
-        let clash : bad ≡ open_ false =
-        IsFront-unique at [] bad (open_ false) (subst (λ (x : List ℕ). IsFront at x bad) nothing front) (IsFront-nil at) in
-        cc
+same_ending : (over late : Bool) (p : Point) (others : List ℕ) (lack : Lack) → is_settled_lack lack ≡ true
+    → ending_of late (grown p others) lack ≡ ending_of over p lack
+same_ending over late p others bad settled = refl
+same_ending over late p others (too_long limit) settled = refl
+same_ending over late p others open_ settled = absurd (cc)
 
-Stops-bad_stays : (over late : Bool) (there : ℕ) (rest more : List ℕ) (p : ℕ) → Stops over there rest (bad_at p)
-    → Stops late there (rest ++ more) (bad_at p)
-Stops-bad_stays over late there rest more p stops =
-    let blank = blank_length rest in
-    let front = drop blank rest in
-    let bad_there : (stops.front ≡ bad) × (there + blank ≡ p) = tail_is_bad over (there + blank) front stops.front p stops.is in
-    let stands : IsFront (there + blank) front bad = subst (λ (f : Front). IsFront (there + blank) front f) bad_there.0 stops.stands in
-    let before : blank_length rest < length rest = bad_after_blank (there + blank) rest stands in
-    let all : blank_length rest ≤ length rest = omega arith in
-    let blanks : blank_length (rest ++ more) ≡ blank = blank_length-append rest more before in
-    let fronts : drop (blank_length (rest ++ more)) (rest ++ more) ≡ front ++ more =
-    ap (λ (k : ℕ). drop k (rest ++ more)) blanks ∙ drop-append-le blank rest more all in
+same_tail : (over late : Bool) (p : Point) (others : List ℕ) (due : Bool) (lack : Lack) → is_settled_lack lack ≡ true
+    → past_blank (grown p others) ≡ grown (past_blank p) others
+    → tail_of late (past_blank (grown p others)) (short due lack) ≡ tail_of over (past_blank p) (short due lack)
+same_tail over late p others due lack settled blanks =
+    ap (λ (q : Point). tail_of late q (short due lack)) blanks
+    ∙ ap (λ (e : Ending). Some (record { due = due; ending = e })) (same_ending over late (past_blank p) others lack settled)
+
+lacks_stay : (over late : Bool) (p : Point) (others : List ℕ) (tail : Tail) (front : Front) → is_last tail.ending ≡ true
+    → Meets p front → tail_of over (past_blank p) front ≡ Some tail → Lacks late (grown p others) tail
+lacks_stay over late p others tail (whole r n) last meets is = absurd (cc)
+lacks_stay over late p others tail (short due lack) last meets is =
+    let same : record { due = due; ending = ending_of over (past_blank p) lack } ≡ tail = cc in
+    let settled : is_settled_lack lack ≡ true =
+    last_settled over (past_blank p) lack (ap (λ (t : Tail). is_last t.ending) same ∙ last) in
+    let blanks : past_blank (grown p others) ≡ grown (past_blank p) others =
+    past_blank-grown p others (Meets-some p (short due lack) settled meets) in
     record {
-      front = bad;
-      stands = subst₂ (λ (k : ℕ) (f : List ℕ). IsFront (there + k) f bad) (sym blanks) (sym fronts)
-          (IsFront-append_bad (there + blank) front more stands);
-      is = ap (λ (k : ℕ). Some (bad_at (there + k))) blanks ∙ ap (λ (q : ℕ). Some (bad_at q)) bad_there.1;
+      front = short due lack;
+      meets = Meets-append p others (short due lack) settled meets;
+      is = same_tail over late p others due lack settled blanks ∙ is;
     }
 
-pub Reads-bad_stays : (bytes more : List ℕ) (over late : Bool) (rs : List Request) (p : ℕ)
-    → Reads bytes over rs (bad_at p) → Reads (bytes ++ more) late rs (bad_at p)
-Reads-bad_stays bytes more over late rs p reads = record {
-  there = reads.there;
-  rest = reads.rest ++ more;
-  begins = Begins-append 0 bytes more rs reads.there reads.rest reads.begins;
-  stops = Stops-bad_stays over late reads.there reads.rest more p reads.stops;
+stops_stay : (shut over late : Bool) (p : Point) (others : List ℕ) (tail : Tail) → is_last tail.ending ≡ true
+    → StopsBy shut over p tail → StopsBy shut late (grown p others) tail
+stops_stay true over late p others tail last stops = stops
+stops_stay false over late p others tail last stops =
+    lacks_stay over late p others tail stops.front last stops.meets stops.is
+
+pub Reads-last : AnEndStays
+Reads-last bytes others over late rs tail last reads = record {
+  point = grown reads.point others;
+  begins = Begins-append (start bytes) others rs reads.point reads.begins;
+  stops = stops_stay reads.point.closed over late reads.point others tail last reads.stops;
 }
+
+-- ---- a part of the bytes
+
+pub a_cut_changes_nothing : ACutChangesNothing
+a_cut_changes_nothing bytes others over late rs all tail last reads whole_reads =
+    let front : (later : List Request) × (all ≡ rs ++ later) × Begins (grown reads.point others) later whole_reads.point =
+    Begins-front (start (bytes ++ others)) late rs all (grown reads.point others) whole_reads.point last
+    (Begins-append (start bytes) others rs reads.point reads.begins) whole_reads.begins whole_reads.stops in
+    (front.0, front.1)

@@ -6,14 +6,14 @@ use Rattle.serde_json.specs.Data.{Data, null, boolean, number, string, array, ob
 use Rattle.serde_json.specs.Read.{read}
 use Rattle.serde_json.specs.Find.{get, as_str}
 use Rattle.ecr_model.specs.declared.http.Request.{Request}
-use Rattle.ecr_model.specs.declared.http.Head.{Head}
 use Rattle.ecr_model.specs.declared.names.SiteId.{SiteId}
 use Rattle.ecr_model.specs.declared.refusal.Parameter.TheVariants.{RegistryId, RepositoryName, ImageTagMutability}
 use Rattle.ecr_model.specs.declared.refusal.Refusal.TheVariants.{InvalidParameter, UnknownOperation}
 use Rattle.ecr_model.specs.declared.repository.Asked.{Asked}
-use Rattle.ecr_model.specs.declared.repository.Asked.TheVariants.{Create, Refused}
+use Rattle.ecr_model.specs.declared.repository.Asked.TheVariants.{Create, Refused, Unrouted}
 use Rattle.ecr_model.specs.Fields.{first_value}
 use Rattle.ecr_model.specs.Framing.{path_of}
+use Rattle.ecr_model.specs.Hosts.{site_for}
 use Rattle.ecr_model.specs.Names.{is_name}
 
 -- the body's JSON reading; a body that isn't UTF-8 has none
@@ -54,13 +54,21 @@ creation site body = if is_absent (member_of (codes "registryId") body)
     then named site body (text_of (member_of (codes "repositoryName") body))
     else Refused (InvalidParameter RegistryId)
 
--- the request is one of the JSON API for that action
-unfoldable pub asks_for : List ℕ → Head → Bool
-asks_for action head =
-    bytes_eq head.method (codes "POST") && bytes_eq (path_of head.target) (codes "/")
-    && option_map_or (λ text. bytes_eq text action) (first_value (codes "x-amz-target") head.fields) false
+-- the request is one of the JSON API
+unfoldable pub is_json_call : Request → Bool
+is_json_call request = bytes_eq request.method (codes "POST") && bytes_eq (path_of request.target) (codes "/")
+
+-- the action that the request names, where it names one
+abbrev pub names_action : List ℕ → Request → Bool
+names_action action request = option_map_or (λ text. bytes_eq text action) (first_value (codes "x-amz-target") request.fields) false
 
 -- what the request asks for, at that site
-unfoldable pub asked_of : SiteId → Request → Asked
-asked_of site request = if asks_for (codes "AmazonEC2ContainerRegistry_V20150921.CreateRepository") request.head
-    then creation site (document request.body) else Refused UnknownOperation
+unfoldable pub asked_at : SiteId → Request → Asked
+asked_at site request = if is_json_call request
+    then (if names_action (codes "AmazonEC2ContainerRegistry_V20150921.CreateRepository") request
+    then creation site (document request.body) else Refused UnknownOperation)
+    else Unrouted
+
+-- what the request asks for, at the site that its Host chooses
+abbrev pub asked_of : List SiteId → Request → Asked
+asked_of sites request = asked_at (site_for sites (first_value (codes "host") request.fields)) request

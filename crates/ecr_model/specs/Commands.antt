@@ -1,5 +1,5 @@
 -- The words of a command, what is said of other words, and the status that a command ends with.
-use Rattle.std.specs.Prelude.{◌≡◌, ℕ, ◌≤◌, ◌<◌, List, [], ◌∷◌, ◌++◌, codes, decimal}
+use Rattle.std.specs.Prelude.{◌≡◌, ◌≢◌, ℕ, ◌≤◌, ◌<◌, List, [], ◌∷◌, ◌++◌, Option, Some, None, IfSome, All, AllPairs, length, map, codes, decimal}
 use Rattle.std.specs.Io.KnownBytes.{Appends, Keeps}
 use Rattle.ecr_model.specs.declared.names.TheConstants.{MAX_MOMENT}
 use Rattle.ecr_model.specs.declared.names.SiteId.{SiteId}
@@ -8,15 +8,23 @@ use Rattle.ecr_model.specs.declared.outcome.End.TheVariants as ends
 use Rattle.ecr_model.specs.Sites.{site_word, IsSite}
 use Rattle.ecr_model.specs.Sessions.{Outside}
 
--- the words are those of a session at that site, whose moment is fixed, in seconds
-pub record IsSession (words : List (List ℕ)) (moment : ℕ) (site : SiteId) : Type 0 where
-  pub words_are : words ≡ codes "session" ∷ codes "--clock" ∷ decimal moment ∷ site_word site ∷ []
-  pub in_range : moment ≤ MAX_MOMENT
-  pub is_site : IsSite site
+-- the words of a clock that stands still, where it does
+abbrev pub clock_words : Option ℕ → List (List ℕ)
+clock_words None = []
+clock_words (Some moment) = codes "--clock" ∷ decimal moment ∷ []
+
+-- the words are those of a session at these sites, whose moment is fixed where one is given, in seconds
+pub record IsSession (words : List (List ℕ)) (fixed : Option ℕ) (sites : List SiteId) : Type 0 where
+  pub words_are : words ≡ codes "session" ∷ clock_words fixed ++ map site_word sites
+  pub in_range : IfSome fixed (λ moment. moment ≤ MAX_MOMENT)
+  pub are_sites : All IsSite sites
+  pub some : 1 ≤ length sites
+  pub at_most : length sites ≤ 64
+  pub differ : AllPairs ◌≢◌ sites
 
 -- the words are no command
 abbrev pub IsNoCommand : List (List ℕ) → Type 0
-IsNoCommand words = (moment : ℕ) (site : SiteId) → IsSession words moment site → ⊥
+IsNoCommand words = (fixed : Option ℕ) (sites : List SiteId) → IsSession words fixed sites → ⊥
 
 -- what is written where the words are no command
 unfoldable pub usage_lines : List ℕ
@@ -37,6 +45,7 @@ SaysUsage before after ends.Whole = ⊥
 SaysUsage before after ends.ReadFault = ⊥
 SaysUsage before after (ends.Truncated at) = ⊥
 SaysUsage before after (ends.Bad at) = ⊥
+SaysUsage before after (ends.TooLong at limit) = ⊥
 SaysUsage before after ends.Spent = ⊥
 
 -- the exit status of a command
@@ -48,4 +57,5 @@ status_of ends.WriteFault = 4
 status_of ends.Mem = 5
 status_of (ends.Truncated at) = 7
 status_of (ends.Bad at) = 8
+status_of (ends.TooLong at limit) = 8
 status_of ends.Spent = 9

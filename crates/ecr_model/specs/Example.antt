@@ -1,11 +1,14 @@
 -- The first repository of a site, by example: the bytes of a request, and the bytes of its answer.
-use Rattle.std.specs.Prelude.{◌≡◌, ℕ, Bool, List, [], ◌∷◌, ◌++◌, None, codes}
+use Rattle.std.specs.Prelude.{◌≡◌, ℕ, Bool, List, [], ◌∷◌, ◌++◌, Some, None, codes}
+use Rattle.ecr_model.specs.declared.http.Head.{Head}
 use Rattle.ecr_model.specs.declared.http.Request.{Request}
 use Rattle.ecr_model.specs.declared.names.SiteId.{SiteId}
 use Rattle.ecr_model.specs.declared.outcome.Cut.{Cut}
 use Rattle.ecr_model.specs.Texts.{crlf}
-use Rattle.ecr_model.specs.Stream.{Reads, ended}
-use Rattle.ecr_model.specs.Sessions.{written, fixed, AreCuts}
+use Rattle.ecr_model.specs.declared.http.Framing.TheVariants.{Chunked}
+use Rattle.ecr_model.specs.Framing.{framing_of, max_body}
+use Rattle.ecr_model.specs.Stream.{complete, IsBody, Reads, Tail, ended}
+use Rattle.ecr_model.specs.Sessions.{written, AreCuts}
 use Rattle.ecr_model.specs.SessionLaws.{output_of}
 
 -- the bytes of a request that creates `team/app`
@@ -21,22 +24,20 @@ first_bytes =
 abbrev pub first_request : Request
 first_request = record {
   at = 0;
-  head = record {
-    method = codes "POST";
-    target = codes "/";
-    minor = 1;
-    fields =
-        record { name = codes "Host"; value = codes "localhost" }
-        ∷ record { name = codes "Content-Length"; value = codes "29" }
-        ∷ record { name = codes "X-Amz-Target"; value = codes "AmazonEC2ContainerRegistry_V20150921.CreateRepository" }
-        ∷ [];
-  };
+  method = codes "POST";
+  target = codes "/";
+  minor = 1;
+  fields =
+      record { name = codes "Host"; value = codes "localhost" }
+      ∷ record { name = codes "Content-Length"; value = codes "29" }
+      ∷ record { name = codes "X-Amz-Target"; value = codes "AmazonEC2ContainerRegistry_V20150921.CreateRepository" }
+      ∷ [];
   body = codes "{\"repositoryName\":\"team/app\"}";
 }
 
--- the site that it comes to
-abbrev pub example_site : SiteId
-example_site = record { region = codes "us-east-1"; account = codes "111122223333" }
+-- the one site that is served
+abbrev pub example_sites : List SiteId
+example_sites = record { region = codes "us-east-1"; account = codes "111122223333" } ∷ []
 
 -- it adds one entry
 abbrev pub first_cut : Cut
@@ -52,14 +53,42 @@ first_answer =
 
 -- a site without repositories answers it like that
 abbrev pub AFirstCreationIsAnswered : Type 0
-AFirstCreationIsAnswered = written example_site [] 1700000000 first_cut first_request ≡ first_answer
+AFirstCreationIsAnswered = written example_sites [] 1700000000 first_cut first_request ≡ first_answer
+
+-- the input ends between two requests
+abbrev pub the_end : Tail
+the_end = record { due = Bool.false; ending = ended }
 
 -- the bytes are that request and no more
 abbrev pub AFirstRequestIsRead : Type 0
-AFirstRequestIsRead = Reads first_bytes Bool.true (first_request ∷ []) ended
+AFirstRequestIsRead = Reads first_bytes Bool.true (first_request ∷ []) the_end
 
 -- the cut is of the request, and what a session writes to it is that answer
 abbrev pub AFirstSessionIsWritten : Type 0
 AFirstSessionIsWritten =
-    AreCuts example_site [] (first_request ∷ []) (fixed 1700000000 (first_cut ∷ [])) (first_cut ∷ [])
-    × (output_of example_site 1700000000 (first_cut ∷ []) (first_request ∷ []) ended ≡ first_answer)
+    AreCuts example_sites [] (first_request ∷ []) (1700000000 ∷ []) (first_cut ∷ [])
+    × (output_of example_sites (1700000000 ∷ []) (first_cut ∷ []) (first_request ∷ []) the_end ≡ first_answer)
+
+-- the head of a request whose body comes in chunks
+abbrev pub chunked_head : Head
+chunked_head = record {
+  method = codes "POST";
+  target = codes "/";
+  minor = 1;
+  fields =
+      record { name = codes "Host"; value = codes "localhost" }
+      ∷ record { name = codes "transfer-encoding"; value = codes "Chunked" }
+      ∷ [];
+}
+
+-- the body of the first request in one chunk, and the last chunk without trailers
+abbrev pub chunked_bytes : List ℕ
+chunked_bytes =
+    codes "1d" ++ crlf ++ codes "{\"repositoryName\":\"team/app\"}" ++ crlf
+    ++ codes "0" ++ crlf ++ crlf
+
+-- behind that head the bytes are that body, and no more
+abbrev pub AChunkedBodyIsRead : Type 0
+AChunkedBodyIsRead =
+    (framing_of chunked_head ≡ Some Chunked)
+    × IsBody (max_body chunked_head.target) chunked_bytes Chunked (complete first_request.body 40)

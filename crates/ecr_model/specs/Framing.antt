@@ -1,12 +1,16 @@
--- Where a request's head ends, and how long its body is (RFC 9112, sections 2.2 and 6.3). Lengths are in bytes.
-use Rattle.std.specs.Prelude.{◌≡◌, ℕ, ◌-◌, ◌<◌, ◌≤◌, Bool, false, ◌&&◌, ◌||◌, ◌==◌, nat_lt, nat_le, min, List, [], length, take, slice_index, Option, Some, None, option_and_then, codes, if◌then◌else◌, bytes_eq}
+-- Where a request's head ends, how its body is delimited, and what it says of the session (RFC 9112, sections 2.2, 6.3
+-- and 9.6; RFC 9110, section 10.1.1). Lengths are in bytes.
+use Rattle.std.specs.Prelude.{◌≡◌, ℕ, ◌-◌, ◌<◌, ◌≤◌, Bool, false, not, ◌&&◌, ◌||◌, ◌==◌, nat_lt, nat_le, min, List, [], length, take, slice_index, Option, Some, None, option_map, codes, if◌then◌else◌, bytes_eq}
 use Rattle.std.specs.List.{list_all, before_first}
+use Rattle.std.specs.Option.{option_map_or}
 use Rattle.std.specs.Char.{is_ascii_digit}
 use Rattle.std.specs.Str.Parse.{digits_value}
 use Rattle.httparse.specs.Grammar.{RequestHead, ReadsRequest}
 use Rattle.ecr_model.specs.declared.http.Field.{Field}
 use Rattle.ecr_model.specs.declared.http.Head.{Head}
-use Rattle.ecr_model.specs.Fields.{head_of, count_of, first_value, each_is}
+use Rattle.ecr_model.specs.declared.http.Framing.{Framing}
+use Rattle.ecr_model.specs.declared.http.Framing.TheVariants.{Sized, Chunked}
+use Rattle.ecr_model.specs.Fields.{head_of, count_of, first_value, each_is, first_says, has_close}
 
 -- of this registry: the greatest length of a head
 unfoldable pub max_head : ℕ
@@ -18,21 +22,21 @@ ends_empty bytes n =
     nat_lt 1 n && slice_index bytes (n - 1) == 10
     && (slice_index bytes (n - 2) == 10 || (nat_lt 2 n && slice_index bytes (n - 2) == 13 && slice_index bytes (n - 3) == 10))
 
--- the head reaches through the first empty line, and is not too long
-pub record IsHeadLength (bytes : List ℕ) (n : ℕ) : Type 0 where
+-- so many bytes reach through the first empty line, and are no more than the limit
+pub record IsEnd (limit : ℕ) (bytes : List ℕ) (n : ℕ) : Type 0 where
   pub within : n ≤ length bytes
-  pub not_long : n ≤ max_head
+  pub not_long : n ≤ limit
   pub ends : ends_empty bytes n ≡ Bool.true
   pub first : (k : ℕ) → k < n → ends_empty bytes k ≡ false
 
--- no head ends in the first n bytes
+-- no empty line ends in the first n bytes
 abbrev pub HasNoEnd : List ℕ → ℕ → Type 0
 HasNoEnd bytes n = (k : ℕ) → k ≤ n → ends_empty bytes k ≡ false
 
--- how long the head is, if its end is there
-abbrev pub EndsAt : List ℕ → Option ℕ → Type 0
-EndsAt bytes None = HasNoEnd bytes (min (length bytes) max_head)
-EndsAt bytes (Some n) = IsHeadLength bytes n
+-- how many bytes reach through the first empty line, if it is there within the limit
+abbrev pub EndsAt : ℕ → List ℕ → Option ℕ → Type 0
+EndsAt limit bytes None = HasNoEnd bytes (min (length bytes) limit)
+EndsAt limit bytes (Some n) = IsEnd limit bytes n
 
 -- the bytes are that head, or no head
 abbrev pub Parses : List ℕ → Option Head → Type 0
@@ -57,14 +61,38 @@ stated_by fields None = Some 0
 stated_by fields (Some text) =
     if each_is (codes "content-length") text fields && is_length text then Some (digits_value 10 text) else None
 
--- of this registry: a head of HTTP/1.1 with one Host, and none of the fields that change how a message is framed
-unfoldable pub is_served : Head → Bool
-is_served head =
-    head.minor == 1 && count_of (codes "host") head.fields == 1 && count_of (codes "transfer-encoding") head.fields == 0
-    && count_of (codes "expect") head.fields == 0 && count_of (codes "connection") head.fields == 0
+-- a request of HTTP/1.1 has exactly one Host (RFC 9112, section 3.2)
+abbrev pub has_its_host : Head → Bool
+has_its_host head = not (head.minor == 1) || count_of (codes "host") head.fields == 1
 
--- the body's length, where the head is one that is served and the body isn't too long
-unfoldable pub body_length : Head → Option ℕ
-body_length head = if is_served head
-    then option_and_then (λ n. if nat_le n (max_body head.target) then Some n else None) (stated_by head.fields (first_value (codes "content-length") head.fields))
-    else None
+-- there is one transfer coding, `chunked`, letter case aside, and no stated length (RFC 9112, section 6.1)
+abbrev pub is_chunked : List Field → Bool
+is_chunked fields =
+    count_of (codes "transfer-encoding") fields == 1
+    && first_says (codes "transfer-encoding") (codes "chunked") fields
+    && count_of (codes "content-length") fields == 0
+
+-- how the body is delimited, by Transfer-Encoding where it stands, else by Content-Length
+abbrev pub delimited_by : List Field → Option Framing
+delimited_by fields = if count_of (codes "transfer-encoding") fields == 0
+    then option_map Sized (stated_by fields (first_value (codes "content-length") fields))
+    else (if is_chunked fields then Some Chunked else None)
+
+-- the same, where the head says it well
+unfoldable pub framing_of : Head → Option Framing
+framing_of head = if has_its_host head then delimited_by head.fields else None
+
+-- there is a body, and none that is stated to pass the limit
+abbrev pub is_sent : ℕ → Framing → Bool
+is_sent limit (Sized size) = nat_lt 0 size && nat_le size limit
+is_sent limit Chunked = Bool.true
+
+-- the client waits for a 100 before it sends the body
+unfoldable pub waits : Head → Bool
+waits head =
+    head.minor == 1 && first_says (codes "expect") (codes "100-continue") head.fields
+    && option_map_or (is_sent (max_body head.target)) (framing_of head) false
+
+-- the session closes after the reply to a request of HTTP/1.0, and to one that says `close`
+unfoldable pub says_close : Head → Bool
+says_close head = head.minor == 0 || option_map_or has_close (first_value (codes "connection") head.fields) false

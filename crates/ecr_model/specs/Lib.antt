@@ -1,10 +1,14 @@
 pub mod Texts
 pub mod Fields
 pub mod Framing
+pub mod Fronts
+pub mod Chunks
 pub mod Stream
 pub mod Names
 pub mod Digests
+pub mod Content
 pub mod Sites
+pub mod Hosts
 pub mod Calls
 pub mod Manifests
 pub mod Repositories

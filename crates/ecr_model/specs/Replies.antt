@@ -1,54 +1,88 @@
--- Replies as bytes (RFC 9112, sections 4 and 6; RFC 9110, section 9.3.2). Headers stand in byte order.
-use Rattle.std.specs.Prelude.{ℕ, Bool, List, [], ◌++◌, length, codes, decimal, if◌then◌else◌, bytes_eq}
+-- Replies as bytes (RFC 9112, sections 4 and 6; RFC 9110, sections 9.3.2 and 15). Headers stand in byte order.
+use Rattle.std.specs.Prelude.{ℕ, Bool, List, [], ◌++◌, ◌==◌, length, codes, decimal, if◌then◌else◌, bytes_eq}
 use Rattle.ecr_model.specs.declared.http.Request.{Request}
 use Rattle.ecr_model.specs.declared.repository.Asked.{Asked}
 use Rattle.ecr_model.specs.declared.repository.Asked.TheVariants as asked
 use Rattle.ecr_model.specs.declared.repository.Reply.{Reply}
-use Rattle.ecr_model.specs.declared.repository.Reply.TheVariants.{Created, Refused}
+use Rattle.ecr_model.specs.declared.repository.Reply.TheVariants.{Created, Refused, NotFound}
 use Rattle.ecr_model.specs.Texts.{crlf}
+use Rattle.ecr_model.specs.Framing.{max_head}
 use Rattle.ecr_model.specs.Bodies.{repository_body, refusal_body}
 
--- the status of a reply that was served, or refused
+-- the status of a reply
 abbrev pub status_text : Reply → List ℕ
 status_text (Created created mutability) = codes "200 OK"
 status_text (Refused refusal) = codes "400 Bad Request"
+status_text NotFound = codes "404 Not Found"
 
 -- the body of a reply; a refusal's says nothing of the repository
 abbrev pub body_text : Asked → Reply → List ℕ
 body_text (asked.Create key) (Created created mutability) = repository_body key created mutability
 body_text (asked.Refused refusal) (Created created mutability) = []
+body_text asked.Unrouted (Created created mutability) = []
 body_text ask (Refused refusal) = refusal_body refusal
+body_text ask NotFound = []
+
+-- the header of a reply after which the session closes
+unfoldable pub connection_line : Bool → List ℕ
+connection_line close = if close then codes "Connection: close" ++ crlf else []
 
 -- a reply of the JSON API up to its body
-unfoldable pub json_head : List ℕ → ℕ → List ℕ
-json_head status size =
+unfoldable pub json_head : Bool → List ℕ → ℕ → List ℕ
+json_head close status size =
     codes "HTTP/1.1 " ++ status ++ crlf
+    ++ connection_line close
     ++ codes "Content-Length: " ++ decimal size ++ crlf
     ++ codes "Content-Type: application/x-amz-json-1.1" ++ crlf ++ crlf
 
+-- a reply without a body
+unfoldable pub empty_reply : Bool → List ℕ → List ℕ
+empty_reply close status =
+    codes "HTTP/1.1 " ++ status ++ crlf
+    ++ connection_line close
+    ++ codes "Content-Length: 0" ++ crlf ++ crlf
+
 -- a reply to HEAD has no body
 abbrev pub is_head : Request → Bool
-is_head request = bytes_eq request.head.method (codes "HEAD")
+is_head request = bytes_eq request.method (codes "HEAD")
 
--- a reply of the JSON API
-unfoldable pub json_reply : Bool → List ℕ → List ℕ → List ℕ
-json_reply bare status body = json_head status (length body) ++ (if bare then [] else body)
+-- the reply up to its body
+abbrev pub head_text : Bool → Reply → ℕ → List ℕ
+head_text close (Created created mutability) size = json_head close (status_text (Created created mutability)) size
+head_text close (Refused refusal) size = json_head close (status_text (Refused refusal)) size
+head_text close NotFound size = empty_reply close (status_text NotFound)
+
+-- the reply to what was asked
+unfoldable pub reply_text : Bool → Bool → Asked → Reply → List ℕ
+reply_text bare close ask reply =
+    head_text close reply (length (body_text ask reply)) ++ (if bare then [] else body_text ask reply)
 
 -- the body of the reply where there was no memory for another
 abbrev pub failed_body : List ℕ
 failed_body = codes "{\"__type\":\"ServerException\",\"message\":\"server error\"}"
 
 -- the reply where there was no memory for another: 53 is the length of its body
-unfoldable pub failed_reply : Bool → List ℕ
-failed_reply bare =
+unfoldable pub failed_reply : Bool → Bool → List ℕ
+failed_reply bare close =
     codes "HTTP/1.1 500 Internal Server Error" ++ crlf
+    ++ connection_line close
     ++ codes "Content-Length: 53" ++ crlf
     ++ codes "Content-Type: application/x-amz-json-1.1" ++ crlf ++ crlf
     ++ (if bare then [] else failed_body)
 
+-- the bytes that a client waits for before it sends a body (RFC 9110, section 15.2.1)
+unfoldable pub continue_reply : List ℕ
+continue_reply = codes "HTTP/1.1 100 Continue" ++ crlf ++ crlf
+
+-- these bytes where they are due
+unfoldable pub interim : Bool → List ℕ
+interim due = if due then continue_reply else []
+
 -- the reply to what is no request
 unfoldable pub bad_reply : List ℕ
-bad_reply =
-    codes "HTTP/1.1 400 Bad Request" ++ crlf
-    ++ codes "Connection: close" ++ crlf
-    ++ codes "Content-Length: 0" ++ crlf ++ crlf
+bad_reply = empty_reply Bool.true (codes "400 Bad Request")
+
+-- the reply to more bytes than that limit allows: the limit of a head, or that of a body
+unfoldable pub long_reply : ℕ → List ℕ
+long_reply limit = empty_reply Bool.true
+    (if limit == max_head then codes "431 Request Header Fields Too Large" else codes "413 Content Too Large")

@@ -1,5 +1,5 @@
 -- What holds of each session.
-use Rattle.std.specs.Prelude.{◌≡◌, ℕ, Bool, List, [], ◌++◌, length, Some}
+use Rattle.std.specs.Prelude.{◌≡◌, ℕ, Bool, List, [], ◌++◌, length, Option, Some}
 use Rattle.std.specs.Io.KnownBytes.{Appends}
 use Rattle.ecr_model.specs.declared.http.Request.{Request}
 use Rattle.ecr_model.specs.declared.names.SiteId.{SiteId}
@@ -7,11 +7,11 @@ use Rattle.ecr_model.specs.declared.outcome.Cut.{Cut}
 use Rattle.ecr_model.specs.declared.outcome.End.{End}
 use Rattle.ecr_model.specs.declared.outcome.End.TheVariants as ends
 use Rattle.ecr_model.specs.Stream.{Tail, Reads}
-use Rattle.ecr_model.specs.Sessions.{replies, last_words, fixed, AreCuts, Ends, Outside, Completed}
+use Rattle.ecr_model.specs.Sessions.{replies, last_words, Ends, Outside, Serviced, Completed}
 
 -- all that a session writes
-abbrev pub output_of : SiteId → ℕ → List Cut → List Request → Tail → List ℕ
-output_of site moment cuts requests tail = replies site [] requests (fixed moment cuts) cuts ++ last_words tail
+abbrev pub output_of : List SiteId → List ℕ → List Cut → List Request → Tail → List ℕ
+output_of sites moments cuts requests tail = replies sites [] requests moments cuts ++ last_words tail
 
 -- an end that the bytes of the whole input decide
 abbrev pub IsOfInput : End → Type 0
@@ -22,6 +22,7 @@ IsOfInput ends.WriteFault = ⊥
 IsOfInput ends.Mem = ⊥
 IsOfInput (ends.Truncated at) = Unit {0}
 IsOfInput (ends.Bad at) = Unit {0}
+IsOfInput (ends.TooLong at limit) = Unit {0}
 IsOfInput ends.Spent = ⊥
 
 -- an end that the bytes that were read decide: also that all that may be read were read
@@ -33,28 +34,30 @@ IsOfRead ends.WriteFault = ⊥
 IsOfRead ends.Mem = ⊥
 IsOfRead (ends.Truncated at) = Unit {0}
 IsOfRead (ends.Bad at) = Unit {0}
+IsOfRead (ends.TooLong at limit) = Unit {0}
 IsOfRead ends.Spent = Unit {0}
 
--- the bytes that were read decide the requests, how the bytes go on, what is written to these cuts, and the end, where
--- it isn't one of the machine's
+-- the bytes that were read decide the requests, how the bytes go on, what is written at these moments to these cuts, and
+-- the end, where it isn't one of the machine's
 abbrev pub OutputIsDetermined : Type 0
 OutputIsDetermined =
-    (site : SiteId) (moment : ℕ) (cuts : List Cut) (read : List ℕ) (over : Bool)
+    (sites : List SiteId) (moments : List ℕ) (cuts : List Cut) (read : List ℕ) (over : Bool)
     (requests others : List Request) (tail last : Tail)
     → Reads read over requests tail → Reads read over others last
     → (requests ≡ others) × (tail ≡ last)
-    × (output_of site moment cuts requests tail ≡ output_of site moment cuts others last)
+    × (output_of sites moments cuts requests tail ≡ output_of sites moments cuts others last)
     × ((end other : End) → IsOfRead end → IsOfRead other
-    → Ends end tail (length read) → Ends other last (length read) → end ≡ other)
+    → Ends end tail.ending (length read) → Ends other last.ending (length read) → end ≡ other)
 
 -- where the source told the whole input at the start, and the session's end is one that an input decides, it is the
--- end that this input decides: each of its requests was answered, and the sink got all the replies and the last words.
--- The session may have stopped before the input's end, at what is no request, and read no more
+-- end that this input decides: each of its requests was answered, and the sink got all that is written to them and the
+-- last words. The session may have stopped before the input's end, where nothing further counts, and read no more
 abbrev pub TheInputDecidesTheEnd : Type 0
 TheInputDecidesTheEnd =
-    (site : SiteId) (moment : ℕ) (before after : Outside) (cuts : List Cut) (end : End)
+    (sites : List SiteId) (fixed : Option ℕ) (before after : Outside) (cuts : List Cut) (end : End)
     (input : List ℕ) (requests : List Request) (tail : Tail)
-    → before.left ≡ Some input → Completed site moment before after cuts end → IsOfInput end
+    → before.left ≡ Some input → Completed sites fixed before after cuts end → IsOfInput end
     → Reads input Bool.true requests tail
-    → Ends end tail (length input) × AreCuts site [] requests (fixed moment cuts) cuts
-    × Appends before.held after.held (output_of site moment cuts requests tail)
+    → Ends end tail.ending (length input)
+    × (moments : List ℕ) × Serviced sites fixed before after requests moments cuts
+    × Appends before.held after.held (output_of sites moments cuts requests tail)

@@ -19,11 +19,25 @@ pub struct Head {
     pub fields: Listed<Field>,
 }
 
+/// How the body of a request is delimited (RFC 9112, section 6.3).
+#[derive(Clone, Copy, Debug, PartialEq, Eq)]
+pub enum Framing {
+    /// It has so many bytes.
+    Sized(u64),
+    /// It comes in chunks (RFC 9112, section 7.1).
+    Chunked,
+}
+
 /// A whole request.
 #[derive(Drop)]
 pub struct Request {
     /// The number of bytes of the input before its first byte.
     pub at: u64,
-    pub head: Head,
+    pub method: Text,
+    pub target: Text,
+    pub fields: Listed<Field>,
+    /// The bytes behind the head, without what delimits them.
     pub body: Text,
+    /// The minor version, `1` for HTTP/1.1.
+    pub minor: u8,
 }

@@ -1,16 +1,22 @@
 // The laws of the definitions that contracts cite. The functions do nothing: their contracts are the laws.
-ghost use Rattle.ecr_model.specs.Example.{AFirstCreationIsAnswered, AFirstRequestIsRead, AFirstSessionIsWritten};
+ghost use Rattle.ecr_model.specs.Example.{AChunkedBodyIsRead, AFirstCreationIsAnswered, AFirstRequestIsRead, AFirstSessionIsWritten};
 ghost use Rattle.ecr_model.specs.SessionLaws.{OutputIsDetermined, TheInputDecidesTheEnd};
-ghost use Rattle.ecr_model.specs.StreamLaws.{BadStaysBad, RequestsAreDetermined};
+ghost use Rattle.ecr_model.specs.StreamLaws.{ACutChangesNothing, AnEndStays, RequestsAreDetermined};
 
 /// The bytes of a stream determine its requests, and how it goes on after them.
 pub fn requests_are_determined()
     ensures { RequestsAreDetermined }
 {}
 
-/// Where the bytes of a stream are no request, nothing that follows changes that, or the requests before.
-pub fn bad_stays_bad()
-    ensures { BadStaysBad }
+/// Where the bytes of a stream show that nothing further counts, what follows changes neither that nor the requests
+/// before: no request stands there, more than a limit allows does, or the last request closes the session.
+pub fn an_end_stays()
+    ensures { AnEndStays }
+{}
+
+/// A part of a stream has the first requests of the whole stream, wherever it is cut.
+pub fn a_cut_changes_nothing()
+    ensures { ACutChangesNothing }
 {}
 
 /// The bytes that a session reads determine the requests, what is written to their cuts, and how the session ends,
@@ -39,4 +45,9 @@ pub fn a_first_request_is_read()
 /// What a session of those bytes writes, where it finds memory to answer, is that answer and nothing else.
 pub fn a_first_session_is_written()
     ensures { AFirstSessionIsWritten }
+{}
+
+/// A body in one chunk, written out there too, is read as its data: of the bytes none is left.
+pub fn a_chunked_body_is_read()
+    ensures { AChunkedBodyIsRead }
 {}

@@ -15,11 +15,12 @@ mod refusal;
 mod repository;
 mod text;
 
-pub use http::{Field, Head, Request};
+pub use http::{Field, Framing, Head, Request};
 pub use journal::{CellJournal, CellKey, Entry, Frame, Limits, Line, Place};
 pub use laws::{
-    a_first_creation_is_answered, a_first_request_is_read, a_first_session_is_written,
-    bad_stays_bad, output_is_determined, requests_are_determined, the_input_decides_the_end,
+    a_chunked_body_is_read, a_cut_changes_nothing, a_first_creation_is_answered,
+    a_first_request_is_read, a_first_session_is_written, an_end_stays, output_is_determined,
+    requests_are_determined, the_input_decides_the_end,
 };
 pub use lifecycle::{Choose, Count, Policy, PolicyFault, Rule};
 pub use listed::Listed;

@@ -15,7 +15,7 @@ pub struct Cut {
 /// How a command ended. Places count the bytes of the input before a request's first byte.
 #[derive(Clone, Copy, Debug, PartialEq, Eq)]
 pub enum End {
-    /// The input ended between two requests.
+    /// The input ended between two requests, or the last request closes the session.
     Whole,
     /// The words aren't a command.
     Usage,
@@ -29,6 +29,8 @@ pub enum End {
     Truncated { at: u64 },
     /// What stands at this place is no request that is served.
     Bad { at: u64 },
+    /// What stands at this place has more bytes than the limit allows.
+    TooLong { at: u64, limit: u64 },
     /// All bytes that a session may read were read, and more were needed.
     Spent,
 }

@@ -1,5 +1,5 @@
 // Repositories, and what is asked and answered of them.
-use crate::{Moment, Name, Refusal, RepoKey};
+use crate::{Moment, Refusal, RepoKey};
 
 /// Whether a tag may move to another image (Amazon ECR API Reference, `imageTagMutability`).
 #[derive(Clone, Copy, Debug, PartialEq, Eq)]
@@ -11,7 +11,7 @@ pub enum Mutability {
 /// A repository that is there.
 #[derive(Drop)]
 pub struct Repository {
-    pub name: Name,
+    pub key: RepoKey,
     /// When it was created, in seconds.
     pub created: Moment,
 }
@@ -23,9 +23,11 @@ pub enum Asked {
     Create(RepoKey),
     /// Nothing that can be done: it is refused whatever stands in the registry.
     Refused(Refusal),
+    /// A target at which nothing is served.
+    Unrouted,
 }
 
-/// What a call is answered.
+/// What a request is answered.
 #[derive(Clone, Copy, Debug, PartialEq, Eq)]
 pub enum Reply {
     /// The repository was created then, in seconds.
@@ -35,4 +37,6 @@ pub enum Reply {
     },
     /// Nothing changed.
     Refused(Refusal),
+    /// Nothing is served there.
+    NotFound,
 }

@@ -1,10 +1,7 @@
-pub mod HeadLemmas
-pub mod LookLemmas
-pub mod DigitsLemmas
 pub mod CallLemmas
-pub mod ReadingLemmas
-pub mod SendLemmas
+pub mod ReplyLemmas
 pub mod AnswerLemmas
 pub mod ServingLemmas
 pub mod WordsLemmas
+pub mod HostLemmas
 pub mod CommandLemmas

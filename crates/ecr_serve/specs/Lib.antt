@@ -1,6 +1,2 @@
-pub mod Spans
-pub mod Looks
-pub mod Reading
-pub mod Rooms
 pub mod Serving
 pub mod Words

@@ -1,43 +1,63 @@
-// What a request asks for: its route, and the members of its body (Amazon ECR API Reference,
-// `CreateRepository`).
-ghost use Rattle.std.specs.Prelude.{◌≡◌, IfOk, option_map, false, bytes_eq};
+// What a request asks for: its route, and the members of its body (Amazon ECR API Reference, CreateRepository).
+ghost use Rattle.std.specs.Prelude.{◌≡◌, ◌<◌, IfOk, option_map, false, bytes_eq, length};
 ghost use Rattle.std.specs.Option.{option_map_or};
 ghost use Rattle.serde_json.specs.Read.{read};
 ghost use Rattle.serde_json.specs.View.{view};
-ghost use Rattle.ecr_model.specs.Calls.{document, member_of, is_absent, text_of, named, creation, asks_for, asked_of};
+ghost use Rattle.ecr_model.specs.Calls.{document, member_of, is_absent, text_of, named, creation, is_json_call, names_action, asked_at, asked_of};
 
-use crate::fields::first_value;
-use crate::framing::path_of;
+use crate::host::site_for;
 use ecr_base::is_name;
-use ecr_model::{Asked, Head, Mem, Name, Parameter, Refusal, RepoKey, Request, SiteId, Text};
+use ecr_http::{first_value, path_of};
+use ecr_model::{Asked, Mem, Name, Parameter, Refusal, RepoKey, Request, SiteId, Text};
 use serde_json::Value;
 use std::alloc::Global;
 
 /// The target of CreateRepository.
 const CREATE_REPOSITORY: &[u8] = b"AmazonEC2ContainerRegistry_V20150921.CreateRepository";
 
+/// What the request asks for, at the site that its Host chooses of those that are served.
+pub(crate) fn read_call(alloc: Global, sites: &[SiteId], request: &Request) -> Result<Asked, Mem>
+    requires { 0 < length sites.now }
+    ensures { IfOk result (λ a. a ≡ asked_of sites.now request.now) }
+{
+    let host = first_value(request.fields.as_slice(), b"host");
+    read_at(alloc, site_for(sites, host), request)
+}
+
 /// What the request asks for, at the site.
 ///
 /// The body is read only where the route and the target are those of an action.
-#[tactic(auto, unfolding(ecr_model::specs::Calls::asked_of))]
-pub(crate) fn read_call(alloc: Global, site: &SiteId, request: &Request) -> Result<Asked, Mem>
-    ensures { IfOk result (λ a. a ≡ asked_of site.now request.now) }
+#[tactic(auto, unfolding(ecr_model::specs::Calls::asked_at))]
+fn read_at(alloc: Global, site: &SiteId, request: &Request) -> Result<Asked, Mem>
+    ensures { IfOk result (λ a. a ≡ asked_at site.now request.now) }
 {
-    if !asks_for(&request.head, CREATE_REPOSITORY) {
+    if !is_json_call(request) {
+        return Ok(Asked::Unrouted);
+    }
+    if !names_action(request, CREATE_REPOSITORY) {
         return Ok(Asked::Refused(Refusal::UnknownOperation));
     }
     let document = read_document(alloc, request.body.as_bytes())?;
     creation(alloc, site, &document)
 }
 
-/// Whether the request is one of the JSON API for the action.
-#[tactic(auto, unfolding(ecr_model::specs::Calls::asks_for))]
-fn asks_for(head: &Head, action: &[u8]) -> bool
-    ensures { result ≡ asks_for action.now head.now }
+/// Whether the request is one of the JSON API.
+#[tactic(auto, unfolding(ecr_model::specs::Calls::is_json_call))]
+fn is_json_call(request: &Request) -> bool
+    ensures { result ≡ is_json_call request.now }
 {
-    head.method.as_bytes() == b"POST".as_slice()
-        && path_of(head.target.as_bytes()) == b"/".as_slice()
-        && is_target(first_value(head.fields.as_slice(), b"x-amz-target"), action)
+    request.method.as_bytes() == b"POST".as_slice()
+        && path_of(request.target.as_bytes()) == b"/".as_slice()
+}
+
+/// Whether the request names the action.
+fn names_action(request: &Request, action: &[u8]) -> bool
+    ensures { result ≡ names_action action.now request.now }
+{
+    is_target(
+        first_value(request.fields.as_slice(), b"x-amz-target"),
+        action,
+    )
 }
 
 /// Whether the target is there and is the action.

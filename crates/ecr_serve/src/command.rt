@@ -1,78 +1,83 @@
 // A command for one caller.
-ghost use Rattle.std.specs.Prelude.{◌≡◌, ℕ, List, Option, map, string_bytes};
+ghost use Rattle.std.specs.Prelude.{◌≡◌, ◌<◌, ℕ, List, Option, length, map, string_bytes};
 ghost use Rattle.ecr_model.specs.Commands.{IsNoCommand, IsSession, SaysUsage, status_of, usage_lines};
 ghost use Rattle.ecr_model.specs.Sessions.{Serves};
-ghost use Rattle.ecr_serve.specs.Serving.{Sends};
+ghost use Rattle.ecr_model.specs.declared.names.SiteId.{SiteId};
+ghost use Rattle.ecr_http.specs.Sends.{Sends};
 
-use crate::send::Sent;
 use crate::session::Session;
-use crate::words::{FixedSession, read_words};
-use crate::write::send;
-use ecr_model::{Cut, End, SiteId};
+use crate::words::{SessionWords, read_words};
+use ecr_http::{Sent, send};
+use ecr_model::{Cut, End};
 use ecr_outside::{Clock, Sink, Source};
 use std::alloc::Global;
 
 /// How a command ended.
 #[derive(Drop)]
 pub struct Ended {
-    /// The exit status: 0 `Whole`, 2 `Usage`, 3 `ReadFault`, 4 `WriteFault`, 5 `Mem`, 7 `Truncated`, 8 `Bad`, 9 `Spent`.
+    /// The exit status: 0 `Whole`, 2 `Usage`, 3 `ReadFault`, 4 `WriteFault`, 5 `Mem`, 7 `Truncated`, 8 `Bad` and
+    /// `TooLong`, 9 `Spent`.
     pub status: u8,
     pub end: End,
     /// One for each request that was answered.
     pub cuts: Vec<Cut>,
 }
 
-/// Runs the command that the words are: `session`, `--clock`, a moment in seconds and the word of a site, as
-/// `us-east-1/111122223333`.
+/// Runs the command that the words are: `session`, then `--clock` and a moment in seconds or neither, and then the words of
+/// 1 to 64 different sites, as `us-east-1/111122223333`.
 ///
 /// A session reads requests from the source and writes the replies to the sink, each as soon as its request was
-/// answered. Its moment is fixed, so the clock isn't asked. Other words are answered by the lines of usage.
+/// answered. Where a moment is given it is that of each answer, and the clock isn't asked; else the clock is asked once for
+/// each request. Other words are answered by the lines of usage.
 pub fn solo<S: Source, K: Sink, C: Clock>(
     alloc: Global,
     words: &[String],
     source: &mut S,
     sink: &mut K,
-    _clock: &mut C,
+    clock: &mut C,
 ) -> Ended
     ensures status { result.status ≡ status_of result.end }
 
     // The words are told apart exactly.
     ensures usage_only { result.end ≡ End.Usage → IsNoCommand (map string_bytes words.now) }
     ensures usage { IsNoCommand (map string_bytes words.now) → SaysUsage
-        (record { left = S.left source.old; held = K.held sink.old; read_faults = S.faults source.old; write_faults = K.faults sink.old })
-        (record { left = S.left source.new; held = K.held sink.new; read_faults = S.faults source.new; write_faults = K.faults sink.new })
+        (record { left = S.left source.old; held = K.held sink.old; told = C.told clock.old; read_faults = S.faults source.old; write_faults = K.faults sink.old })
+        (record { left = S.left source.new; held = K.held sink.new; told = C.told clock.new; read_faults = S.faults source.new; write_faults = K.faults sink.new })
         result.end }
 
     // What a session reads, answers and writes, and how it ends.
-    ensures session { (moment : ℕ) (site : SiteId) → IsSession (map string_bytes words.now) moment site → Serves site moment
-        (record { left = S.left source.old; held = K.held sink.old; read_faults = S.faults source.old; write_faults = K.faults sink.old })
-        (record { left = S.left source.new; held = K.held sink.new; read_faults = S.faults source.new; write_faults = K.faults sink.new })
+    ensures session { (fixed : Option ℕ) (sites : List SiteId) → IsSession (map string_bytes words.now) fixed sites → Serves sites fixed
+        (record { left = S.left source.old; held = K.held sink.old; told = C.told clock.old; read_faults = S.faults source.old; write_faults = K.faults sink.old })
+        (record { left = S.left source.new; held = K.held sink.new; told = C.told clock.new; read_faults = S.faults source.new; write_faults = K.faults sink.new })
         result.cuts.items result.end }
 {
     match read_words(alloc, words) {
         Err(_) => with_status(End::Mem, Vec::new(alloc)),
         Ok(None) => with_status(say_usage(sink), Vec::new(alloc)),
-        Ok(Some(command)) => serve_fixed(alloc, &command, source, sink),
+        Ok(Some(command)) => serve(alloc, &command, source, sink, clock),
     }
 }
 
-// Serves one session at its fixed moment.
-fn serve_fixed<S: Source, K: Sink>(
+// Serves one session.
+fn serve<S: Source, K: Sink, C: Clock>(
     alloc: Global,
-    command: &FixedSession,
+    command: &SessionWords,
     source: &mut S,
     sink: &mut K,
+    clock: &mut C,
 ) -> Ended
+    requires { 0 < length command.now.sites }
     ensures status { result.status ≡ status_of result.end }
-    ensures serves { Serves command.now.site command.now.moment
-        (record { left = S.left source.old; held = K.held sink.old; read_faults = S.faults source.old; write_faults = K.faults sink.old })
-        (record { left = S.left source.new; held = K.held sink.new; read_faults = S.faults source.new; write_faults = K.faults sink.new })
+    ensures serves { Serves command.now.sites command.now.fixed
+        (record { left = S.left source.old; held = K.held sink.old; told = C.told clock.old; read_faults = S.faults source.old; write_faults = K.faults sink.old })
+        (record { left = S.left source.new; held = K.held sink.new; told = C.told clock.new; read_faults = S.faults source.new; write_faults = K.faults sink.new })
         result.cuts.items result.end }
 {
     match Session::new(alloc) {
         Err(_) => with_status(End::Mem, Vec::new(alloc)),
         Ok(mut session) => {
-            let end = session.run(alloc, &command.site, command.moment, source, sink);
+            let sites = command.sites.as_slice();
+            let end = session.run(alloc, sites, command.fixed, source, sink, clock);
             with_status(end, cuts_of(session))
         }
     }
@@ -91,9 +96,9 @@ fn cuts_of(session: Session) -> Vec<Cut>
 
 // Writes the lines of usage, and says how the command ends.
 fn say_usage<K: Sink>(sink: &mut K) -> End
-    ensures { (left : Option (List ℕ)) (faults : ℕ) → SaysUsage
-        (record { left = left; held = K.held sink.old; read_faults = faults; write_faults = K.faults sink.old })
-        (record { left = left; held = K.held sink.new; read_faults = faults; write_faults = K.faults sink.new }) result }
+    ensures { (left told : Option (List ℕ)) (faults : ℕ) → SaysUsage
+        (record { left = left; held = K.held sink.old; told = told; read_faults = faults; write_faults = K.faults sink.old })
+        (record { left = left; held = K.held sink.new; told = told; read_faults = faults; write_faults = K.faults sink.new }) result }
 {
     match send(sink, usage_text()) {
         Sent::Done => End::Usage,
@@ -122,6 +127,7 @@ fn with_status(end: End, cuts: Vec<Cut>) -> Ended
         End::Mem => 5,
         End::Truncated { .. } => 7,
         End::Bad { .. } => 8,
+        End::TooLong { .. } => 8,
         End::Spent => 9,
     };
     Ended { status, end, cuts }

@@ -1,43 +1,94 @@
-// Replies as bytes (RFC 9112, sections 4 and 6), and their bodies as JSON (Amazon ECR API Reference).
-ghost use Rattle.std.specs.Prelude.{◌≡◌, IfOk, length, decimal, string_bytes};
+// Replies as bytes (RFC 9112, sections 4 and 6; RFC 9110, sections 9.3.2 and 15), and their bodies as JSON (Amazon ECR API
+// Reference).
+ghost use Rattle.std.specs.Prelude.{◌≡◌, IfOk, [], true, false, length, decimal, string_bytes, if◌then◌else◌};
 ghost use Rattle.serde_json.specs.View.{view};
 ghost use Rattle.ecr_model.specs.Sites.{utf8_or_empty};
 ghost use Rattle.ecr_model.specs.Bodies.{parameter_text, type_text, message_text, refusal_data, mutability_text, repository_data, repository_body, refusal_body};
-ghost use Rattle.ecr_model.specs.Replies.{status_text, body_text, json_head, failed_reply, bad_reply};
+ghost use Rattle.ecr_model.specs.Replies.{status_text, body_text, connection_line, json_head, empty_reply, head_text, is_head, reply_text, failed_reply, bad_reply, long_reply};
+ghost use Rattle.ecr_http.specs.Replies.{reply_bytes};
 
 use ecr_base::{write_arn, write_uri};
-use ecr_model::{Asked, Mem, Moment, Mutability, Parameter, Refusal, Reply, RepoKey, Text};
+use ecr_http::HttpReply;
+use ecr_model::{
+    Asked, Mem, Moment, Mutability, Parameter, Refusal, Reply, RepoKey, Request, Text,
+};
 use serde_json::{Value, json};
 use std::alloc::Global;
-
-/// A reply: the bytes before its body, and its body. A reply to HEAD is the head alone.
-#[derive(Drop)]
-pub(crate) struct HttpReply {
-    pub head: Vec<u8>,
-    pub body: Vec<u8>,
-}
 
 /// Room for the head of each reply.
 const HEAD_ROOM: usize = 128;
 
-/// The reply to what was asked.
-pub(crate) fn write_reply(alloc: Global, asked: &Asked, reply: &Reply) -> Result<HttpReply, Mem>
-    ensures body { IfOk result (λ r. r.body.items ≡ body_text asked.now reply.now) }
-    ensures head { IfOk result (λ r. r.head.items ≡ json_head (status_text reply.now) (length r.body.items)) }
+/// The greatest length of a head (of this registry).
+const MAX_HEAD: u64 = 65_536;
+
+/// The reply to what was asked, which says `close` where the session closes after it; without its body where it is `bare`.
+pub(crate) fn write_reply(
+    alloc: Global,
+    asked: &Asked,
+    reply: &Reply,
+    close: bool,
+    bare: bool,
+) -> Result<HttpReply, Mem>
+    ensures { IfOk result (λ r. reply_bytes r ≡ reply_text bare close asked.now reply.now) }
 {
     let body = write_body(alloc, asked, reply)?;
-    let head = write_head(alloc, status_text(reply), body.len())?;
-    Ok(HttpReply { head, body })
+    let head = write_head(alloc, close, reply, body.len())?;
+    Ok(HttpReply {
+        head,
+        body: Vec::new(alloc),
+        tail: body_or_none(alloc, body, bare),
+    })
 }
 
-/// The reply where there was no memory for another.
-pub(crate) fn failed_reply(bare: bool) -> &'static [u8]
-    ensures { result.now ≡ failed_reply bare }
+/// The body, or none of it where the reply is bare.
+fn body_or_none(alloc: Global, body: Vec<u8>, bare: bool) -> Vec<u8>
+    ensures { result.items ≡ (if bare then [] else body.items) }
+{
+    if bare { Vec::new(alloc) } else { body }
+}
+
+/// Whether the request is one of HEAD, whose reply has no body (RFC 9110, section 9.3.2).
+pub(crate) fn is_head(request: &Request) -> bool
+    ensures { result ≡ is_head request.now }
+{
+    request.method.as_bytes() == b"HEAD".as_slice()
+}
+
+/// The reply where there was no memory for another, without its body where it is `bare`.
+pub(crate) fn failed_reply(bare: bool, close: bool) -> &'static [u8]
+    ensures { result.now ≡ failed_reply bare close }
 {
     if bare {
+        failed_head(close)
+    } else {
+        failed_whole(close)
+    }
+}
+
+fn failed_head(close: bool) -> &'static [u8]
+    ensures { result.now ≡ failed_reply true close }
+{
+    if close {
+        b"HTTP/1.1 500 Internal Server Error\r\n\
+          Connection: close\r\n\
+          Content-Length: 53\r\n\
+          Content-Type: application/x-amz-json-1.1\r\n\r\n"
+    } else {
         b"HTTP/1.1 500 Internal Server Error\r\n\
           Content-Length: 53\r\n\
           Content-Type: application/x-amz-json-1.1\r\n\r\n"
+    }
+}
+
+fn failed_whole(close: bool) -> &'static [u8]
+    ensures { result.now ≡ failed_reply false close }
+{
+    if close {
+        b"HTTP/1.1 500 Internal Server Error\r\n\
+          Connection: close\r\n\
+          Content-Length: 53\r\n\
+          Content-Type: application/x-amz-json-1.1\r\n\r\n\
+          {\"__type\":\"ServerException\",\"message\":\"server error\"}"
     } else {
         b"HTTP/1.1 500 Internal Server Error\r\n\
           Content-Length: 53\r\n\
@@ -55,16 +106,42 @@ pub(crate) fn bad_reply() -> &'static [u8]
       Content-Length: 0\r\n\r\n"
 }
 
+/// The reply to more bytes than that limit allows: the limit of a head, or that of a body.
+pub(crate) fn long_reply(limit: u64) -> &'static [u8]
+    ensures { result.now ≡ long_reply limit }
+{
+    if limit == MAX_HEAD {
+        b"HTTP/1.1 431 Request Header Fields Too Large\r\n\
+          Connection: close\r\n\
+          Content-Length: 0\r\n\r\n"
+    } else {
+        b"HTTP/1.1 413 Content Too Large\r\n\
+          Connection: close\r\n\
+          Content-Length: 0\r\n\r\n"
+    }
+}
+
+/// The reply up to its body of so many bytes.
+fn write_head(alloc: Global, close: bool, reply: &Reply, size: usize) -> Result<Vec<u8>, Mem>
+    ensures { IfOk result (λ v. v.items ≡ head_text close reply.now size) }
+{
+    match reply {
+        Reply::NotFound => write_empty(alloc, close, status_text(reply)),
+        _ => write_json_head(alloc, close, status_text(reply), size),
+    }
+}
+
 /// A reply of the JSON API up to its body.
 #[tactic(auto, unfolding(ecr_model::specs::Replies::json_head))]
-fn write_head(alloc: Global, status: &str, size: usize) -> Result<Vec<u8>, Mem>
-    ensures { IfOk result (λ v. v.items ≡ json_head status.now size) }
+fn write_json_head(alloc: Global, close: bool, status: &str, size: usize) -> Result<Vec<u8>, Mem>
+    ensures { IfOk result (λ v. v.items ≡ json_head close status.now size) }
 {
     let digits = write_decimal(alloc, size)?;
     let mut head = Vec::with_capacity(alloc, HEAD_ROOM)?;
     head.extend_from_slice(b"HTTP/1.1 ")?;
     head.extend_from_slice(status.as_bytes())?;
     head.extend_from_slice(b"\r\n")?;
+    head.extend_from_slice(connection_line(close))?;
     head.extend_from_slice(b"Content-Length: ")?;
     head.extend_from_slice(digits.as_bytes())?;
     head.extend_from_slice(b"\r\n")?;
@@ -74,6 +151,29 @@ fn write_head(alloc: Global, status: &str, size: usize) -> Result<Vec<u8>, Mem>
     Ok(head)
 }
 
+/// A reply without a body.
+#[tactic(auto, unfolding(ecr_model::specs::Replies::empty_reply))]
+fn write_empty(alloc: Global, close: bool, status: &str) -> Result<Vec<u8>, Mem>
+    ensures { IfOk result (λ v. v.items ≡ empty_reply close status.now) }
+{
+    let mut head = Vec::with_capacity(alloc, HEAD_ROOM)?;
+    head.extend_from_slice(b"HTTP/1.1 ")?;
+    head.extend_from_slice(status.as_bytes())?;
+    head.extend_from_slice(b"\r\n")?;
+    head.extend_from_slice(connection_line(close))?;
+    head.extend_from_slice(b"Content-Length: 0")?;
+    head.extend_from_slice(b"\r\n")?;
+    head.extend_from_slice(b"\r\n")?;
+    Ok(head)
+}
+
+/// The header of a reply after which the session closes (RFC 9112, section 9.6).
+fn connection_line(close: bool) -> &'static [u8]
+    ensures { result.now ≡ connection_line close }
+{
+    if close { b"Connection: close\r\n" } else { b"" }
+}
+
 /// The number in decimal.
 fn write_decimal(alloc: Global, number: usize) -> Result<String, Mem>
     ensures { IfOk result (λ s. string_bytes s ≡ decimal number) }
@@ -81,13 +181,14 @@ fn write_decimal(alloc: Global, number: usize) -> Result<String, Mem>
     number.to_string(alloc)
 }
 
-/// The status of a reply that was served, or refused.
+/// The status of a reply.
 fn status_text(reply: &Reply) -> &'static str
     ensures { result.now ≡ status_text reply.now }
 {
     match reply {
         Reply::Created { .. } => "200 OK",
         Reply::Refused(_) => "400 Bad Request",
+        Reply::NotFound => "404 Not Found",
     }
 }
 
@@ -103,8 +204,8 @@ fn write_body(alloc: Global, asked: &Asked, reply: &Reply) -> Result<Vec<u8>, Me
                 mutability,
             },
         ) => repository_body(alloc, key, *created, *mutability),
-        (Asked::Refused(_), Reply::Created { .. }) => Ok(Vec::new(alloc)),
         (_, Reply::Refused(refusal)) => refusal_body(alloc, *refusal),
+        _ => Ok(Vec::new(alloc)),
     }
 }
 

@@ -1,63 +1,113 @@
 // The words of a command.
-ghost use Rattle.std.specs.Prelude.{◌≡◌, IfOk, MatchOption, ◌∷◌, [], ◌↔◌, IsTrue, codes, map, string_bytes};
-ghost use Rattle.ecr_model.specs.Commands.{IsNoCommand, IsSession};
-ghost use Rattle.ecr_serve.specs.Words.{IsMoment, IsNoMoment};
+ghost use Rattle.std.specs.Prelude.{◌≡◌, ◌≤◌, ◌++◌, ◌∷◌, [], ◌↔◌, IfOk, IfSome, MatchOption, Contains, IsTrue, List, Some, codes, map, string_bytes};
+ghost use Rattle.ecr_model.specs.declared.names.SiteId.{SiteId};
+ghost use Rattle.ecr_model.specs.Commands.{IsNoCommand, IsSession, clock_words};
+ghost use Rattle.ecr_serve.specs.Words.{AreSites, IsMoment, IsNew, IsNoMoment};
 
 use ecr_base::read_site;
-use ecr_model::{MAX_MOMENT, Mem, Moment, SiteId};
+use ecr_model::{Listed, MAX_MOMENT, Mem, Moment, SiteId};
 use std::alloc::Global;
 
-/// The words of a session whose moment is fixed.
+/// The most sites of a session (of this registry).
+const MAX_SITES: usize = 64;
+
+/// The words of a session.
 #[derive(Drop)]
-pub struct FixedSession {
-    pub moment: Moment,
-    pub site: SiteId,
+pub struct SessionWords {
+    /// Where the clock stands still, its moment.
+    pub fixed: Option<Moment>,
+    /// The sites that are served, in their order.
+    pub sites: Listed<SiteId>,
 }
 
-/// Reads the words of a command: `session`, `--clock`, a moment in decimal and the word of a site.
-/// `None` where they are others.
-pub(crate) fn read_words(alloc: Global, words: &[String]) -> Result<Option<FixedSession>, Mem>
-    ensures { IfOk result (λ o. MatchOption o (IsNoCommand (map string_bytes words.now)) (λ s. IsSession (map string_bytes words.now) s.moment s.site)) }
+/// Reads the words of a command: `session`, then `--clock` and a moment in decimal or neither, and then the words of
+/// 1 to 64 different sites. `None` where they are others.
+pub(crate) fn read_words(alloc: Global, words: &[String]) -> Result<Option<SessionWords>, Mem>
+    ensures { IfOk result (λ o. MatchOption o (IsNoCommand (map string_bytes words.now)) (λ s. IsSession (map string_bytes words.now) s.fixed s.sites)) }
 {
-    let [command, option, moment, site] = words else {
+    let [command, rest @ ..] = words else {
         return Ok(None);
     };
-    read_parts(
-        alloc,
-        command.as_str(),
-        option.as_str(),
-        moment.as_str(),
-        site.as_str(),
-    )
+    if is_same(command.as_str(), "session") {
+        read_session(alloc, rest)
+    } else {
+        Ok(None)
+    }
 }
 
-/// Reads the four words of a session.
-fn read_parts(
-    alloc: Global,
-    command: &str,
-    option: &str,
-    moment: &str,
-    site: &str,
-) -> Result<Option<FixedSession>, Mem>
-    ensures { let words = command.now ∷ option.now ∷ moment.now ∷ site.now ∷ [] in IfOk result (λ o. MatchOption o (IsNoCommand words) (λ s. IsSession words s.moment s.site)) }
+/// Reads the words behind `session`.
+fn read_session(alloc: Global, words: &[String]) -> Result<Option<SessionWords>, Mem>
+    ensures { let all = codes "session" ∷ map string_bytes words.now in IfOk result (λ o. MatchOption o (IsNoCommand all) (λ s. IsSession all s.fixed s.sites)) }
 {
-    if !are_session_words(command, option) {
+    let [option, moment, rest @ ..] = words else {
+        return read_served(alloc, None, words);
+    };
+    if is_same(option.as_str(), "--clock") {
+        read_fixed(alloc, moment.as_str(), rest)
+    } else {
+        read_served(alloc, None, words)
+    }
+}
+
+/// Reads the moment behind `--clock`, and the words behind it.
+fn read_fixed(alloc: Global, moment: &str, words: &[String]) -> Result<Option<SessionWords>, Mem>
+    ensures { let all = codes "session" ∷ codes "--clock" ∷ moment.now ∷ map string_bytes words.now in IfOk result (λ o. MatchOption o (IsNoCommand all) (λ s. IsSession all s.fixed s.sites)) }
+{
+    let Some(fixed) = read_moment(alloc, moment)? else {
+        return Ok(None);
+    };
+    read_served(alloc, Some(fixed), words)
+}
+
+/// Reads the words of 1 to 64 different sites, behind those of the clock.
+fn read_served(
+    alloc: Global,
+    fixed: Option<Moment>,
+    words: &[String],
+) -> Result<Option<SessionWords>, Mem>
+    requires { IfSome fixed (λ moment. moment ≤ MAX_MOMENT) }
+    ensures { let all = codes "session" ∷ clock_words fixed ++ map string_bytes words.now in IfOk result
+        (λ o. MatchOption o ((sites : List SiteId) → ¬ (IsSession all fixed sites)) (λ s. (s.fixed ≡ fixed) × IsSession all fixed s.sites)) }
+{
+    if words.is_empty() || words.len() > MAX_SITES {
         return Ok(None);
     }
-    let Some(moment) = read_moment(alloc, moment)? else {
+    let Some(sites) = read_sites(alloc, words)? else {
         return Ok(None);
     };
-    let Some(site) = read_site(alloc, site.as_bytes())? else {
-        return Ok(None);
-    };
-    Ok(Some(FixedSession { moment, site }))
+    Ok(Some(SessionWords { fixed, sites }))
 }
 
-/// Whether the words are `session` and `--clock`.
-fn are_session_words(command: &str, option: &str) -> bool
-    ensures { IsTrue result ↔ ((command.now ≡ codes "session") × (option.now ≡ codes "--clock")) }
+/// Reads the words of sites. `None` where one is no such word, or stands twice.
+fn read_sites(alloc: Global, words: &[String]) -> Result<Option<Listed<SiteId>>, Mem>
+    ensures { IfOk result (λ o. MatchOption o ((sites : List SiteId) → ¬ (AreSites (map string_bytes words.now) sites)) (AreSites (map string_bytes words.now))) }
 {
-    command == "session" && option == "--clock"
+    let mut sites = Vec::new(alloc);
+    for (i, word) in words.iter().enumerate() {
+        let Some(site) = read_new(alloc, &words[..i], word.as_str())? else {
+            return Ok(None);
+        };
+        sites.push(site)?;
+    }
+    Ok(Some(Listed::from_vec(sites)))
+}
+
+/// Reads the word of a site that isn't one of the earlier words.
+fn read_new(alloc: Global, earlier: &[String], word: &str) -> Result<Option<SiteId>, Mem>
+    ensures { IfOk result (λ o. MatchOption o ((site : SiteId) → ¬ (IsNew (map string_bytes earlier.now) word.now site)) (IsNew (map string_bytes earlier.now) word.now)) }
+{
+    if has_word(earlier, word) {
+        Ok(None)
+    } else {
+        read_site(alloc, word.as_bytes())
+    }
+}
+
+/// Whether the word is one of the words.
+fn has_word(words: &[String], word: &str) -> bool
+    ensures { IsTrue result ↔ Contains (map string_bytes words.now) word.now }
+{
+    words.iter().any(|other| other.as_str() == word)
 }
 
 /// Reads a moment in decimal, with no leading zero. `None` where the word is no such moment.

@@ -1,6 +1,6 @@
 use Rattle.std.proofs.Common.{◌∙◌, sym, ap}
 use Rattle.std.proofs.lemmas.Result.{IfOk-weaker}
-use Rattle.ecr_serve.proofs.AnswerLemmas.{Outcome-created, Outcome-refused, Outcome-refused_always}
+use Rattle.ecr_serve.proofs.AnswerLemmas.{Outcome-created, Outcome-refused, Outcome-refused_always, Outcome-found, Outcome-unrouted}
 use Rattle.ecr_serve.proofs.answer.enter.Goals as goal
 
 pub returns-in-Created-clause-entries : goal.returns-in-Created-clause-entries
@@ -28,3 +28,19 @@ returns-in-Refused-clause-entries c =
 pub returns-in-Refused-clause-world : goal.returns-in-Refused-clause-world
 returns-in-Refused-clause-world c =
     sym (ap (λ o. o.world) (Outcome-refused_always c.args.repositories.now.items c.args.moment c.args.asked c.in-Refused.field-0 c.in-Refused.is))
+
+pub returns-in-NotFound-clause-entries : goal.returns-in-NotFound-clause-entries
+returns-in-NotFound-clause-entries c =
+    Outcome-found c.args.repositories.now.items c.args.moment c.args.asked c.args.reply c.in-Create.key c.requires c.in-Create.is c.in-NotFound.is
+
+pub returns-in-NotFound-clause-world : goal.returns-in-NotFound-clause-world
+returns-in-NotFound-clause-world c =
+    Outcome-found c.args.repositories.now.items c.args.moment c.args.asked c.args.reply c.in-Create.key c.requires c.in-Create.is c.in-NotFound.is
+
+pub returns-in-Unrouted-clause-entries : goal.returns-in-Unrouted-clause-entries
+returns-in-Unrouted-clause-entries c =
+    sym (ap (λ o. o.entries) (Outcome-unrouted c.args.repositories.now.items c.args.moment c.args.asked c.in-Unrouted.is))
+
+pub returns-in-Unrouted-clause-world : goal.returns-in-Unrouted-clause-world
+returns-in-Unrouted-clause-world c =
+    sym (ap (λ o. o.world) (Outcome-unrouted c.args.repositories.now.items c.args.moment c.args.asked c.in-Unrouted.is))

@@ -5,18 +5,19 @@ use Rattle.ecr_serve.proofs.ServingLemmas.{Serves-nothing}
 use Rattle.ecr_serve.proofs.command.solo.Goals as goal
 
 pub returns-in-Err-clause-session : goal.returns-in-Err-clause-session
-returns-in-Err-clause-session g c = λ moment site words.
-    Serves-nothing site moment _ _ _ (c.with_status.ensures.cuts ∙ c.new.ensures.items) c.with_status.ensures.end
+returns-in-Err-clause-session g c = λ fixed sites words.
+    Serves-nothing sites fixed _ _ _ (c.with_status.ensures.cuts ∙ c.new.ensures.items) c.with_status.ensures.end
 
 pub returns-in-Ok-None-clause-usage : goal.returns-in-Ok-None-clause-usage
 returns-in-Ok-None-clause-usage g c = λ other.
     let left = g.S.Source.left c.args.source.now in
+    let told = g.C.Clock.told c.args.clock.now in
     let faults = g.S.Source.faults c.args.source.now in
-    let before : Outside = record { left = left; held = g.K.Sink.held c.args.sink.now; read_faults = faults; write_faults = g.K.Sink.faults c.args.sink.now } in
-    let after : Outside = record { left = left; held = g.K.Sink.held c.say_usage.new.sink; read_faults = faults; write_faults = g.K.Sink.faults c.say_usage.new.sink } in
-    SaysUsage-same_end before after c.with_status-in-Ok-None.result.end c.say_usage.result c.with_status-in-Ok-None.ensures.end (c.say_usage.ensures left faults)
+    let before : Outside = record { left = left; held = g.K.Sink.held c.args.sink.now; told = told; read_faults = faults; write_faults = g.K.Sink.faults c.args.sink.now } in
+    let after : Outside = record { left = left; held = g.K.Sink.held c.say_usage.new.sink; told = told; read_faults = faults; write_faults = g.K.Sink.faults c.say_usage.new.sink } in
+    SaysUsage-same_end before after c.with_status-in-Ok-None.result.end c.say_usage.result c.with_status-in-Ok-None.ensures.end (c.say_usage.ensures left told faults)
 
 pub returns-in-Ok-Some-clause-session : goal.returns-in-Ok-Some-clause-session
-returns-in-Ok-Some-clause-session g c = λ moment site words.
-    Serves-same_words _ c.in-Ok-Some.command.moment moment c.in-Ok-Some.command.site site _ _ _ _
-    (rw c.in-Ok-Some.field-0-is at c.in-Ok-Some.ensures) words c.serve_fixed.ensures.serves
+returns-in-Ok-Some-clause-session g c = λ fixed sites words.
+    Serves-same_words _ c.in-Ok-Some.command.fixed fixed c.in-Ok-Some.command.sites sites _ _ _ _
+    (rw c.in-Ok-Some.field-0-is at c.in-Ok-Some.ensures) words c.serve.ensures.serves

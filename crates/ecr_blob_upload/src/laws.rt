@@ -1,0 +1,20 @@
+// What holds of all content. The functions do nothing: their contracts are the laws.
+ghost use Rattle.std.specs.Prelude.{ℕ, List};
+ghost use Rattle.std.specs.Thread.{IsSend, IsSync};
+ghost use Rattle.ecr_model.specs.Content.{content_digest};
+ghost use Rattle.ecr_model.specs.Digests.{IsDigest};
+ghost use Rattle.ecr_blob_upload.specs.contracts.blob.Blob.{the_row as blob};
+ghost use Rattle.ecr_blob_upload.specs.contracts.bytes.Bytes.{the_row as bytes};
+
+/// The digest of content has 32 bytes.
+pub fn content_has_a_digest()
+    ensures { (content : List ℕ) → IsDigest (content_digest content) }
+{}
+
+/// Blobs and bytes may be sent to other threads and shared with them.
+pub fn content_crosses_threads()
+    ensures blobs_sent { IsSend blob }
+    ensures blobs_shared { IsSync blob }
+    ensures bytes_sent { IsSend bytes }
+    ensures bytes_shared { IsSync bytes }
+{}

@@ -1,0 +1,202 @@
+-- How a head is read: blank bytes are passed, and more bytes come.
+use Rattle.std.proofs.Common.{◌≡◌, ℕ, zero, suc, ◌+◌, ◌<◌, ◌≤◌, Bool, true, false, cond, List, [], ◌∷◌, ◌++◌, length, drop, get_or, Option, refl, sym, ap, ◌∙◌, subst, arith, length-append, length-drop, append-nil, append_assoc}
+use Rattle.std.proofs.lemmas.List.{at_drop_more, drop-append-le}
+use Rattle.std.proofs.Math.Seq.{drop-nil}
+use Rattle.std.proofs.KnownBytes.{Consumes-nil, Consumes-trans, Consumes-kept}
+use Rattle.std.specs.Io.KnownBytes.{Consumes, Keeps}
+use Rattle.ecr_model.specs.Framing.{max_head, ends_empty, HasNoEnd}
+use Rattle.ecr_model.specs.Sessions.{max_read}
+use Rattle.ecr_model.specs.Stream.{is_blank, blank_length}
+use Rattle.ecr_model.proofs.FramingLemmas.{HasNoEnd-append}
+use Rattle.ecr_model.proofs.StreamLemmas.{blank_length-le, blank_length-drop}
+use Rattle.ecr_http.specs.Leads.{IsReady, IsRead, IsShort, IsOpen, passed}
+use Rattle.ecr_http.specs.Takings.{lengthened, Gains}
+use Rattle.ecr_http.specs.declared.intake.Intake.{Intake}
+use Rattle.ecr_http.specs.declared.intake.Stop.{Stop}
+use Rattle.ecr_http.specs.declared.intake.Stop.TheVariants as stops
+
+-- ---- blank bytes
+
+-- a blank byte behind blank ones is one more
+pub blank_length-more : (bytes : List ℕ) (n : ℕ) → n < length bytes → n ≤ blank_length bytes → is_blank (get_or bytes n 0) ≡ true → n + 1 ≤ blank_length bytes
+blank_length-more bytes n h at_most e =
+    let step = at_drop_more blank_length bytes n 0 h in
+    let here = ap (λ v. cond v (1 + blank_length (drop (n + 1) bytes)) 0) e in
+    omega (arith, blank_length-drop bytes n at_most, step, here)
+
+-- another byte ends them
+pub blank_length-stop : (bytes : List ℕ) (n : ℕ) → n < length bytes → n ≤ blank_length bytes → is_blank (get_or bytes n 0) ≡ false → n ≡ blank_length bytes
+blank_length-stop bytes n h at_most e =
+    let step = at_drop_more blank_length bytes n 0 h in
+    let here = ap (λ v. cond v (1 + blank_length (drop (n + 1) bytes)) 0) e in
+    omega (arith, blank_length-drop bytes n at_most, step, here)
+
+-- more bytes don't end the blank ones earlier
+pub blank_length-grows : (bytes others : List ℕ) → blank_length bytes ≤ blank_length (bytes ++ others)
+blank_length-grows [] others = omega arith
+blank_length-grows (b ∷ bytes) others = elim (is_blank b) as (λ v. cond v (1 + blank_length bytes) 0 ≤ cond v (1 + blank_length (bytes ++ others)) 0) [ true ↦ omega (arith, blank_length-grows bytes others) | false ↦ omega arith ]
+
+-- ---- what is always so
+
+-- no head ends before there is a byte
+pub HasNoEnd-zero : (bytes : List ℕ) → HasNoEnd bytes 0
+unfolding ends_empty
+HasNoEnd-zero bytes k h =
+    let none : k ≡ 0 = omega arith in
+    subst (λ n. ends_empty bytes n ≡ false) (sym none) refl
+
+pub IsReady-fresh : (intake : Intake) → intake.buffer ≡ [] → intake.at ≡ 0 → intake.total ≡ 0 → intake.scanned ≡ 0 → 21846 ≤ length intake.spans.items → IsReady intake
+IsReady-fresh intake buffer at total scanned room = record {
+  room = room;
+  placed = omega (arith, ap length buffer);
+  spent = omega arith;
+  within = omega arith;
+  known = subst (HasNoEnd intake.buffer) (sym scanned) (HasNoEnd-zero intake.buffer);
+}
+
+pub IsReady-passed : (intake : Intake) (count : ℕ) → count ≤ length intake.buffer → IsReady intake → IsReady (passed count intake)
+IsReady-passed intake count h ready = record {
+  room = ready.room;
+  placed = let placed = ready.placed in omega (arith, length-drop count intake.buffer);
+  spent = ready.spent;
+  within = omega arith;
+  known = HasNoEnd-zero (drop count intake.buffer);
+}
+
+-- no head ends in the first so many bytes
+abbrev pub looked : ℕ → Intake → Intake
+looked n intake = record intake { scanned = n }
+
+IsReady-looked : (intake : Intake) (n : ℕ) → IsReady intake → n ≤ length intake.buffer → HasNoEnd intake.buffer n → IsReady (looked n intake)
+IsReady-looked intake n ready within none_ends = record {
+  room = ready.room;
+  placed = ready.placed;
+  spent = ready.spent;
+  within = within;
+  known = none_ends;
+}
+
+IsReady-lengthened : (intake : Intake) (piece : List ℕ) → IsReady intake → intake.total + length piece ≤ max_read → IsReady (lengthened intake piece)
+IsReady-lengthened intake piece ready fits =
+    let size = length-append intake.buffer piece in
+    let placed = ready.placed in
+    let within = ready.within in
+    record {
+      room = ready.room;
+      placed = omega arith;
+      spent = fits;
+      within = omega arith;
+      known = HasNoEnd-append intake.buffer piece intake.scanned ready.within ready.known;
+    }
+
+-- ---- how far the reading has come
+
+pub IsRead-start : (before : Option (List ℕ)) (now : Intake) → IsReady now → IsRead before now before now
+IsRead-start before now ready = record {
+  got = [];
+  skipped = 0;
+  consumed = Consumes-nil before;
+  blank = omega arith;
+  buffered = sym (append-nil now.buffer);
+  placed = omega arith;
+  ready = ready;
+}
+
+pub drop-drop : (i j : ℕ) (l : List ℕ) → drop j (drop i l) ≡ drop (i + j) l
+drop-drop zero j l = ap (λ k. drop k l) (omega arith)
+drop-drop (suc i) j [] = drop-nil j ∙ sym (drop-nil (suc i + j))
+drop-drop (suc i) j (x ∷ l) =
+    let e : suc (i + j) ≡ suc i + j = omega arith in
+    drop-drop i j l ∙ ap (λ k. drop k (x ∷ l)) e
+
+-- the blank bytes are dropped
+pub IsRead-passed_blank : (before : Option (List ℕ)) (old : Intake) (after : Option (List ℕ)) (now : Intake) → IsRead before old after now
+    → IsRead before old after (passed (blank_length now.buffer) now)
+IsRead-passed_blank before old after now r =
+    let all = blank_length-drop (old.buffer ++ r.got) r.skipped r.blank in
+    let same = ap blank_length r.buffered in
+    record {
+      got = r.got;
+      skipped = r.skipped + blank_length now.buffer;
+      consumed = r.consumed;
+      blank = omega arith;
+      buffered = ap (drop (blank_length now.buffer)) r.buffered ∙ drop-drop r.skipped (blank_length now.buffer) (old.buffer ++ r.got);
+      placed = let placed = r.placed in omega arith;
+      ready = IsReady-passed now (blank_length now.buffer) (blank_length-le now.buffer) r.ready;
+    }
+
+pub IsRead-looked : (before : Option (List ℕ)) (old : Intake) (after : Option (List ℕ)) (now : Intake) (n : ℕ) → IsRead before old after now
+    → n ≤ length now.buffer → HasNoEnd now.buffer n → IsRead before old after (looked n now)
+IsRead-looked before old after now n r within none_ends = record {
+  got = r.got;
+  skipped = r.skipped;
+  consumed = r.consumed;
+  blank = r.blank;
+  buffered = r.buffered;
+  placed = r.placed;
+  ready = IsReady-looked now n r.ready within none_ends;
+}
+
+-- the room for fields isn't looked at
+pub IsRead-spans : (before : Option (List ℕ)) (old : Intake) (after : Option (List ℕ)) (now last : Intake) → IsRead before old after now
+    → last ≡ record now { spans = last.spans } → 21846 ≤ length last.spans.items → IsRead before old after last
+IsRead-spans before old after now last r same room = subst (IsRead before old after) (sym same) (record {
+  got = r.got;
+  skipped = r.skipped;
+  consumed = r.consumed;
+  blank = r.blank;
+  buffered = r.buffered;
+  placed = r.placed;
+  ready = record {
+    room = room;
+    placed = r.ready.placed;
+    spent = r.ready.spent;
+    within = r.ready.within;
+    known = r.ready.known;
+  };
+})
+
+IsRead-lengthened : (before : Option (List ℕ)) (old : Intake) (mid after : Option (List ℕ)) (now : Intake) (piece : List ℕ) → IsRead before old mid now
+    → Consumes mid after piece → now.total + length piece ≤ max_read → IsRead before old after (lengthened now piece)
+IsRead-lengthened before old mid after now piece r consumed fits =
+    let same = append_assoc old.buffer r.got piece in
+    let blank = r.blank in
+    let grows = blank_length-grows (old.buffer ++ r.got) piece in
+    record {
+      got = r.got ++ piece;
+      skipped = r.skipped;
+      consumed = Consumes-trans before mid after r.got piece r.consumed consumed;
+      blank = subst (λ l. r.skipped ≤ blank_length l) same (omega arith);
+      buffered = ap (λ l. l ++ piece) r.buffered
+          ∙ sym (drop-append-le r.skipped (old.buffer ++ r.got) piece (omega (arith, blank_length-le (old.buffer ++ r.got))))
+          ∙ ap (drop r.skipped) same;
+      placed = r.placed;
+      ready = IsReady-lengthened now piece r.ready fits;
+    }
+
+-- bytes came
+pub IsRead-gains : (before : Option (List ℕ)) (old : Intake) (mid after : Option (List ℕ)) (now last : Intake) → IsRead before old mid now
+    → Gains mid now after last → IsRead before old after last
+IsRead-gains before old mid after now last r gains =
+    subst (IsRead before old after) (sym gains.now_is)
+    (IsRead-lengthened before old mid after now gains.piece r gains.consumed gains.within)
+
+-- none came
+pub IsRead-kept : (before : Option (List ℕ)) (old : Intake) (mid after : Option (List ℕ)) (now last : Intake) → IsRead before old mid now
+    → last ≡ now → Keeps mid after → IsRead before old after last
+IsRead-kept before old mid after now last r same kept = subst (IsRead before old after) (sym same) (record {
+  got = r.got;
+  skipped = r.skipped;
+  consumed = Consumes-kept before mid after r.got r.consumed kept;
+  blank = r.blank;
+  buffered = r.buffered;
+  placed = r.placed;
+  ready = r.ready;
+})
+
+-- less than a head is there, whatever stops the reading
+pub IsOpen-from_short : (stop : Stop) (bytes : List ℕ) → IsShort bytes → IsOpen stop bytes
+IsOpen-from_short stops.Ended bytes few = few
+IsOpen-from_short stops.Failed bytes few = few
+IsOpen-from_short stops.Spent bytes few = few
+IsOpen-from_short stops.Mem bytes few = tt

@@ -1,0 +1,11 @@
+use Rattle.std.proofs.Common.{arith}
+use Rattle.ecr_model.specs.Sessions.{max_read}
+use Rattle.ecr_http.specs.Takings.{left_to_read}
+use Rattle.ecr_http.proofs.intake.Intake.fill.Goals as goal
+
+pub returns-in-Ok-Bytes-clause-nearer : goal.returns-in-Ok-Bytes-clause-nearer
+unfolding left_to_read max_read
+returns-in-Ok-Bytes-clause-nearer g c =
+    let filled = rw c.in-Ok-Bytes.field-0-is at c.in-Ok-Bytes.ensures.filled in
+    let some = filled.some in
+    omega (arith, c.if-self-ge-MAX_READ.false)

@@ -1,0 +1,13 @@
+use Rattle.std.proofs.Common.{◌≤◌}
+use Rattle.ecr_http.specs.Leads.{IsRead}
+use Rattle.ecr_http.specs.Takings.{left_to_read}
+use Rattle.ecr_http.proofs.intake.Intake.find_head.Given as goal
+
+abbrev pub invariant-loop-lead : goal.invariant-loop-lead
+invariant-loop-lead g l = record {
+  read : IsRead (g.S.Source.left l.initial.source) l.initial.self (g.S.Source.left l.source) l.self;
+  later : g.S.Source.faults l.initial.source ≤ g.S.Source.faults l.source;
+}
+
+abbrev pub decreases-loop-lead : goal.decreases-loop-lead
+decreases-loop-lead g l = left_to_read l.self

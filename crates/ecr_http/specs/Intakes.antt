@@ -1,0 +1,26 @@
+-- What is taken from a source. Sizes are in bytes.
+use Rattle.std.specs.Prelude.{◌≡◌, ℕ, ◌+◌, ◌<◌, ◌≤◌, List, ◌++◌, length, Option, None, Some, ⊤}
+use Rattle.std.specs.Io.KnownBytes.{Consumes, Keeps, IsAtEnd}
+use Rattle.ecr_outside.specs.declared.source.Got.{Got}
+use Rattle.ecr_outside.specs.declared.source.Got.TheVariants.{Bytes, End, Failed}
+
+-- at least one byte, and no more than there is room for
+abbrev pub HasRoom : Got → ℕ → Type 0
+HasRoom (Bytes n) room = (1 ≤ n) × (n ≤ room)
+HasRoom End room = ⊤
+HasRoom Failed room = ⊤
+
+-- some bytes, at most so many, came from the source to the end of the buffer
+pub record Gains (most : ℕ) (before : Option (List ℕ)) (old : List ℕ) (after : Option (List ℕ)) (now : List ℕ) (n : ℕ) : Type 0 where
+  pub piece : List ℕ
+  pub consumed : Consumes before after piece
+  pub count : length piece ≡ n
+  pub some : 1 ≤ n
+  pub at_most : n ≤ most
+  pub appended : now ≡ old ++ piece
+
+-- what one read did to the buffer
+abbrev pub Fills : ℕ → Option (List ℕ) → List ℕ → Option (List ℕ) → List ℕ → Got → Type 0
+Fills most before old after now (Bytes n) = Gains most before old after now n
+Fills most before old after now End = (now ≡ old) × Keeps before after × IsAtEnd after
+Fills most before old after now Failed = (now ≡ old) × Keeps before after

@@ -1,0 +1,10 @@
+pub mod Spans
+pub mod Sends
+pub mod Intakes
+pub mod Takings
+pub mod Leads
+pub mod Bodies
+pub mod Decoding
+pub mod Reading
+pub mod Events
+pub mod Replies

@@ -1,0 +1,38 @@
+-- What one call of a reader takes from the source, tells the client and gives. A reader is seen as a point of the stream
+-- of all bytes of its source; where it is closed, it isn't used again.
+use Rattle.std.specs.Prelude.{◌≡◌, ℕ, ◌+◌, ◌⊎◌, Bool, true, false, List, [], ◌++◌, length, Option}
+use Rattle.std.specs.Io.KnownBytes.{Consumes, Appends, IsAtEnd}
+use Rattle.ecr_model.specs.Replies.{continue_reply, interim}
+use Rattle.ecr_model.specs.Sessions.{max_read, is_waiting}
+use Rattle.ecr_model.specs.Stream.{Point, grown, Meets, AwaitsBody, past, whole, Lacks, Ending, ended, truncated, bad_at, long_at, more}
+use Rattle.ecr_http.specs.Sends.{Sends}
+use Rattle.ecr_http.specs.declared.events.Event.{Event}
+use Rattle.ecr_http.specs.declared.events.Event.TheVariants as events
+use Rattle.ecr_http.specs.declared.write.Sent.TheVariants.{WriteFault}
+
+-- no whole request comes, and the stream goes on like that; the client was told to go on where it waited
+abbrev pub Shows : Bool → Point → Option (List ℕ) → Option (List ℕ) → Ending → Type 0
+Shows over p held now ending = (due : Bool) × Lacks over p (record { due = due; ending = ending }) × Appends held now (interim due)
+
+-- nothing was told to the client, or to go on, since it waited
+abbrev pub MayTell : Point → List ℕ → Type 0
+MayTell p further = (further ≡ []) ⊎ (AwaitsBody p × (further ≡ continue_reply))
+
+-- what is given, where these bytes come, and the reader is at that point afterwards
+abbrev pub Gives : Point → Point → Option (List ℕ) → Option (List ℕ) → Option (List ℕ) → Event → Type 0
+Gives p q left held now (events.Request request) =
+    (n : ℕ) × Meets p (whole request n) × (q ≡ past p request n) × Appends held now (interim (is_waiting request))
+Gives p q left held now events.End = Shows true p held now ended × IsAtEnd left
+Gives p q left held now (events.Truncated at) = Shows true p held now (truncated at) × IsAtEnd left
+Gives p q left held now (events.Bad at) = Shows false p held now (bad_at at)
+Gives p q left held now (events.TooLong at limit) = Shows false p held now (long_at at limit)
+Gives p q left held now events.ReadFault = Shows false p held now more
+Gives p q left held now events.WriteFault = AwaitsBody p × Sends held now continue_reply WriteFault
+Gives p q left held now events.Spent = Shows false p held now more × (p.at + length p.ahead ≡ max_read)
+Gives p q left held now events.Mem = (further : List ℕ) × MayTell p further × Appends held now further
+
+-- what a call of a reader did: `got` was taken from the source
+pub record Nexts (before held : Option (List ℕ)) (p : Point) (after now : Option (List ℕ)) (q : Point) (event : Event) : Type 0 where
+  pub got : List ℕ
+  pub consumed : Consumes before after got
+  pub gives : Gives (grown p got) q after held now event

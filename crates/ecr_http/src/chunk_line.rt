@@ -1,0 +1,63 @@
+// The line of a chunk, and the end of its data (RFC 9112, section 7.1). Places and sizes are in bytes.
+ghost use Rattle.std.specs.Prelude.{◌≡◌};
+ghost use Rattle.ecr_model.specs.Chunks.{line_size, line_end, Says};
+ghost use Rattle.ecr_http.specs.Decoding.{IsClosed};
+
+use httparse::{Status, parse_chunk_size};
+
+/// The greatest length of a chunk's line, with its line end (of this registry).
+pub(crate) const MAX_CHUNK_LINE: usize = 1_024;
+
+/// What stands behind a chunk's data.
+#[derive(Clone, Copy)]
+pub enum Closing {
+    /// CR LF, as it is due.
+    Crlf,
+    /// Less, which can become CR LF.
+    Less,
+    /// Another byte.
+    Other,
+}
+
+/// The place of the first LF, if a chunk's line that ends there is within the limit.
+#[tactic(auto, unfolding(ecr_model::specs::Chunks::max_chunk_line))]
+pub(crate) fn line_end(bytes: &[u8]) -> Option<usize>
+    ensures { result ≡ line_end bytes.now }
+{
+    let end = line_size(bytes);
+    if end < bytes.len() && end < MAX_CHUNK_LINE {
+        Some(end)
+    } else {
+        None
+    }
+}
+
+// How many bytes stand before the first LF.
+fn line_size(bytes: &[u8]) -> usize
+    ensures { result ≡ line_size bytes.now }
+{
+    bytes.iter().take_while(|byte| **byte != b'\n').count()
+}
+
+/// The chunk-size that a line says, or `None` where it is the line of no chunk.
+pub(crate) fn size_of(line: &[u8]) -> Option<u64>
+    ensures { Says line.now result }
+{
+    match parse_chunk_size(line) {
+        Ok(Status::Complete((len, size))) => { if len == line.len() { Some(size) } else { None } }
+        Ok(Status::Partial) => None,
+        Err(_) => None,
+    }
+}
+
+/// What stands at the front of the bytes behind a chunk's data.
+pub(crate) fn closing_of(bytes: &[u8]) -> Closing
+    ensures { IsClosed bytes.now result }
+{
+    match bytes {
+        [] => Closing::Less,
+        [b'\r'] => Closing::Less,
+        [b'\r', b'\n', ..] => Closing::Crlf,
+        _ => Closing::Other,
+    }
+}

@@ -1,0 +1,66 @@
+// What a reader keeps between the bytes of a source and its requests.
+ghost use Rattle.std.specs.Prelude.{◌≡◌, ◌<◌, ◌≤◌, ◌+◌, ℕ, Option, List, length};
+ghost use Rattle.ecr_http.specs.Takings.{Takes};
+
+use crate::buffer::{Buffer, PIECE};
+use ecr_outside::{Got, Source};
+use httparse::spans::HeaderSpan;
+
+/// The most bytes that a reader takes from its source.
+pub(crate) const MAX_READ: u64 = 1 << 40;
+
+/// The bytes that were read and not yet used, and where they stand.
+#[derive(Drop)]
+pub struct Intake {
+    /// The bytes that come, from the place `at` on.
+    pub buffer: Buffer,
+    /// The place of what is being read: so many bytes were used before it.
+    pub at: u64,
+    /// The number of bytes that were read.
+    pub total: u64,
+    /// No empty line ends in the first so many bytes of the buffer.
+    pub scanned: usize,
+    /// The room in which a head's fields are found.
+    pub spans: Vec<HeaderSpan>,
+}
+
+/// Why no more bytes come.
+#[derive(Clone, Copy)]
+pub enum Stop {
+    /// The source has ended.
+    Ended,
+    /// The source failed.
+    Failed,
+    /// All bytes that may be read were read.
+    Spent,
+    /// There is no memory for more.
+    Mem,
+}
+
+impl Intake {
+    ghost use Rattle.ecr_http.specs.Takings.{left_to_read};
+    ghost use Rattle.std.specs.Prelude.{IfNone, Some};
+
+    /// Reads once. Where nothing comes, all is as before.
+    #[tactic(auto, unfolding(ecr_model::specs::Sessions::max_read))]
+    pub(crate) fn fill<S: Source>(&mut self, source: &mut S) -> Option<Stop>
+        ensures takes { Takes (S.left source.old) self.old (S.left source.new) self.new result }
+        ensures nearer { IfNone result (left_to_read self.new < left_to_read self.old) }
+        ensures later { S.faults source.old ≤ S.faults source.new }
+        ensures cause { result ≡ Some Stop.Failed → S.faults source.old < S.faults source.new }
+    {
+        if self.total >= MAX_READ {
+            return Some(Stop::Spent);
+        }
+        let most = PIECE.min((MAX_READ - self.total) as usize);
+        match self.buffer.fill(source, most) {
+            Err(_) => Some(Stop::Mem),
+            Ok(Got::Bytes(n)) => {
+                self.total += n as u64;
+                None
+            }
+            Ok(Got::End) => Some(Stop::Ended),
+            Ok(Got::Failed) => Some(Stop::Failed),
+        }
+    }
+}

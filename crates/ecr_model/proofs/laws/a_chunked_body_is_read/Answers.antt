@@ -1,0 +1,5 @@
+use Rattle.ecr_model.proofs.ChunkExampleLemmas.{a_chunked_body_is_read}
+use Rattle.ecr_model.proofs.laws.a_chunked_body_is_read.Goals as goal
+
+pub returns : goal.returns
+returns c = a_chunked_body_is_read

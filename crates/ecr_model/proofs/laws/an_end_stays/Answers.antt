@@ -1,0 +1,5 @@
+use Rattle.ecr_model.proofs.StreamLemmas.{Reads-last}
+use Rattle.ecr_model.proofs.laws.an_end_stays.Goals as goal
+
+pub returns : goal.returns
+returns c = Reads-last

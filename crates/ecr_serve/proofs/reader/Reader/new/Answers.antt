@@ -1,8 +1,0 @@
-use Rattle.std.proofs.Common.{refl, arith}
-use Rattle.ecr_serve.proofs.ReadingLemmas.{IsReady-fresh}
-use Rattle.ecr_serve.proofs.reader.Reader.new.Goals as goal
-
-pub returns-clause-ready : goal.returns-clause-ready
-returns-clause-ready c =
-    let many = c.in_ok-spans.ensures.len in
-    IsReady-fresh _ c.new.ensures refl refl refl refl (omega arith)

@@ -1,6 +1,0 @@
-use Rattle.std.proofs.Common.{◌≤◌}
-use Rattle.ecr_model.specs.Stream.{blank_length}
-use Rattle.ecr_serve.proofs.reader.blank_length.Given as goal
-
-abbrev pub invariant-loop-n : goal.invariant-loop-n
-invariant-loop-n l = l.n ≤ blank_length l.bytes
