@@ -5,6 +5,8 @@ ghost use Rattle.ecr_model.specs.Content.{content_digest};
 ghost use Rattle.ecr_model.specs.Digests.{IsDigest};
 ghost use Rattle.ecr_blob_upload.specs.contracts.blob.Blob.{the_row as blob};
 ghost use Rattle.ecr_blob_upload.specs.contracts.bytes.Bytes.{the_row as bytes};
+ghost use Rattle.ecr_blob_upload.specs.contracts.call.Load.{the_row as load};
+ghost use Rattle.ecr_blob_upload.specs.contracts.call.Outcome.{the_row as outcome};
 
 /// The digest of content has 32 bytes.
 pub fn content_has_a_digest()
@@ -17,4 +19,10 @@ pub fn content_crosses_threads()
     ensures blobs_shared { IsSync blob }
     ensures bytes_sent { IsSend bytes }
     ensures bytes_shared { IsSync bytes }
+{}
+
+/// What a call brings and comes to may be sent to other threads.
+pub fn calls_cross_threads()
+    ensures loads { IsSend load }
+    ensures outcomes { IsSend outcome }
 {}

@@ -5,7 +5,7 @@ use Rattle.std.specs.Str.Lossy.{utf8_valid_len}
 use Rattle.std.proofs.lemmas.Bool.{cond-true, eq-eqb}
 use Rattle.std.proofs.lemmas.Str.{utf8_valid_len-IsUtf8}
 use Rattle.serde_json.specs.Read.{read}
-use Rattle.ecr_model.specs.Calls.{document}
+use Rattle.ecr_model.specs.Members.{document}
 
 -- a body that is UTF-8 has the reading of its text
 pub document-IsUtf8 : (body : List ℕ) → IsUtf8 body → document body ≡ read body

@@ -2,13 +2,12 @@
 use Rattle.std.proofs.Common.{◌≡◌, ℕ, ◌⊎◌, inl, inr, Bool, true, false, List, [], ◌++◌, length, Option, Some, None, refl, sym, ap, ◌∙◌, subst, ⊎_elim, append-nil}
 use Rattle.std.specs.Io.KnownBytes.{Consumes, Appends, IsAtEnd}
 use Rattle.ecr_model.specs.declared.http.Request.{Request}
-use Rattle.ecr_model.specs.declared.names.SiteId.{SiteId}
-use Rattle.ecr_model.specs.declared.outcome.Cut.{Cut}
 use Rattle.ecr_model.specs.declared.outcome.End.{End}
 use Rattle.ecr_model.specs.declared.outcome.End.TheVariants as ends
 use Rattle.ecr_model.specs.Stream.{Lack, bad, too_long, open_, Front, whole, short, Point, past_blank, Ending, Tail, ended, closed, truncated, bad_at, long_at, more, ending_of, tail_of, StopsBy, Reads}
 use Rattle.ecr_model.specs.StreamLaws.{is_last}
-use Rattle.ecr_model.specs.Sessions.{Ends, Outside, Serviced, Completed}
+use Rattle.ecr_model.specs.Scripts.{World}
+use Rattle.ecr_model.specs.Sessions.{Ends, Outside, Account, Setting, Serviced, Completed}
 use Rattle.ecr_model.specs.SessionLaws.{output_of, IsOfInput, IsOfRead, OutputIsDetermined, TheInputDecidesTheEnd}
 use Rattle.ecr_model.proofs.StreamLemmas.{Reads-unique, Reads-last}
 
@@ -35,7 +34,7 @@ end_is ends.WriteFault ending size d x = absurd d
 end_is ends.Mem ending size d x = absurd d
 
 pub output_is_determined : OutputIsDetermined
-output_is_determined sites moments cuts read over requests others tail last reads again =
+output_is_determined set account read over requests others tail last reads again =
     let same : (requests ≡ others) × (tail ≡ last) = Reads-unique read over requests others tail last reads again in (
       same.0,
       same.1,
@@ -127,24 +126,23 @@ Ends_any_size ends.Mem ending size other d x = absurd d
 Ends_any_size ends.Spent ending size other d x = absurd d
 
 -- the session's reading is the input's
-pub Completed-reads_input : (sites : List SiteId) (fixed : Option ℕ) (before after : Outside) (cuts : List Cut) (end : End) (input : List ℕ)
-    → before.left ≡ Some input → (done : Completed sites fixed before after cuts end) → IsOfInput end
+pub Completed-reads_input : (set : Setting) (before after : Outside) (account : Account) (left : World) (end : End) (input : List ℕ)
+    → before.left ≡ Some input → (done : Completed set before after account left end) → IsOfInput end
     → Reads input true done.requests done.tail
-Completed-reads_input sites fixed before after cuts end input told done d =
+Completed-reads_input set before after account left end input told done d =
     let front : (rest : List ℕ) × (after.left ≡ Some rest) × (input ≡ done.read ++ rest) =
     Consumes-front before.left after.left input done.read told done.consumed in
     reads_input input done.read front.0 done.over after.left done.requests done.tail front.1 front.2 done.at_end done.reads
     (end_shows end done.tail.ending (length done.read) d done.ends)
 
 pub the_input_decides_the_end : TheInputDecidesTheEnd
-the_input_decides_the_end sites fixed before after cuts end input requests tail told done d reads =
-    let mine : Reads input true done.requests done.tail = Completed-reads_input sites fixed before after cuts end input told done d in
+the_input_decides_the_end set before after account left end input requests tail told done d reads =
+    let mine : Reads input true done.requests done.tail = Completed-reads_input set before after account left end input told done d in
     let same : (done.requests ≡ requests) × (done.tail ≡ tail) =
     Reads-unique input true done.requests requests done.tail tail mine reads in (
       subst (λ (t : Tail). Ends end t.ending (length input)) same.1
           (Ends_any_size end done.tail.ending (length done.read) (length input) d done.ends),
-      done.moments,
-      subst (λ (rs : List Request). Serviced sites fixed before after rs done.moments cuts) same.0 done.serviced,
-      subst (λ (t : Tail). Appends before.held after.held (output_of sites done.moments cuts requests t)) same.1
-          (subst (λ (rs : List Request). Appends before.held after.held (output_of sites done.moments cuts rs done.tail)) same.0 done.sent),
+      subst (λ (rs : List Request). Serviced set before after rs account left) same.0 done.serviced,
+      subst (λ (t : Tail). Appends before.held after.held (output_of set account requests t)) same.1
+          (subst (λ (rs : List Request). Appends before.held after.held (output_of set account rs done.tail)) same.0 done.sent),
     )

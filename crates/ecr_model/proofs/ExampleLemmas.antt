@@ -1,5 +1,5 @@
 -- The first request of the example, read and answered.
-use Rattle.std.proofs.Common.{lit≤, ◌≡◌, ℕ, zero, suc, ◌<◌, ◌⊎◌, Bool, true, false, List, [], ◌∷◌, take, drop, Some, codes, if◌then◌else◌, refl, sym, ⊎_elim, subst, arith}
+use Rattle.std.proofs.Common.{lit≤, ◌≡◌, ℕ, zero, suc, ◌<◌, ◌⊎◌, Bool, true, false, List, [], ◌∷◌, ◌++◌, take, drop, Some, None, codes, append-nil, if◌then◌else◌, refl, sym, ap, ◌∙◌, ⊎_elim, subst, arith}
 use Rattle.std.specs.Str.Lossy.{utf8_valid_len}
 use Rattle.std.specs.Str.{is_utf8, chars, IsAscii}
 use Rattle.std.specs.Fmt.{digits}
@@ -13,26 +13,73 @@ use Rattle.ecr_model.specs.declared.http.Head.{Head}
 use Rattle.ecr_model.specs.declared.http.Framing.TheVariants.{Sized}
 use Rattle.ecr_model.specs.Fields.{has_close}
 use Rattle.ecr_model.specs.Stream.{complete, IsBody, whole, short, open_, head_part, IsFront, Point, Stops}
-use Rattle.ecr_model.specs.Sessions.{written, left_by, replies}
+use Rattle.ecr_model.specs.Sessions.{outcome_of, written, left_by, replies}
 use Rattle.ecr_model.specs.Hosts.{site_for, named_site, without_port}
-use Rattle.ecr_model.specs.Calls.{asked_at, is_json_call, creation, document}
-use Rattle.ecr_model.specs.Repositories.{step}
-use Rattle.ecr_model.specs.Replies.{reply_text, json_head, connection_line, interim}
-use Rattle.ecr_model.specs.Bodies.{repository_body, repository_data}
+use Rattle.ecr_model.specs.Actions.{asks, cell, reading, action_of, members_of, typed_reading, asked_by}
+use Rattle.ecr_model.specs.Directories.{after_line, first_directory, registration}
+use Rattle.ecr_model.specs.Journals.{replay}
+use Rattle.ecr_model.specs.Members.{document, are_typed, first_bad}
+use Rattle.ecr_model.specs.Posed.{Posed, api, posed_of, is_json_call, posed_script, posed_bytes}
+use Rattle.ecr_model.specs.Refusals.{parameter_text}
+use Rattle.ecr_model.specs.Rendered.{json, reply_data, repository_data}
+use Rattle.ecr_model.specs.Replies.{json_head, connection_line, interim}
+use Rattle.ecr_model.specs.Requests.{asked_script, call_script, first_turn, then_cell}
+use Rattle.ecr_model.specs.Scripts.{Run, then_do, run, turn_at, with_line, fresh}
+use Rattle.ecr_model.specs.Limits.{standard}
+use Rattle.ecr_model.specs.Steps as steps
+use Rattle.ecr_model.specs.declared.call.Call.TheVariants.{Create}
+use Rattle.ecr_model.specs.declared.names.RepoKey.{RepoKey}
+use Rattle.ecr_model.specs.declared.reply.Reply.{Reply}
+use Rattle.ecr_model.specs.declared.reply.Reply.TheVariants.{Created}
+use Rattle.ecr_model.specs.declared.repository.Mutability.TheVariants.{Mutable}
 use Rattle.ecr_model.specs.Names.{is_name}
 use Rattle.ecr_model.specs.Sites.{utf8_or_empty, arn_of, uri_of}
-use Rattle.ecr_model.specs.Example.{first_bytes, first_request, the_end, AFirstCreationIsAnswered, AFirstRequestIsRead, AFirstSessionIsWritten}
+use Rattle.ecr_model.specs.Example.{example_sites, example_realm, first_cut, first_answer, first_bytes, first_request, the_end, AFirstCreationIsAnswered, AFirstRequestIsRead, AFirstSessionIsWritten}
 use Rattle.ecr_model.proofs.FrontLemmas.{IsFront-body, IsFront-nil}
 
 -- ---- its answer
 
+-- `team/app` at the one site
+abbrev app : RepoKey
+app = record { site = record { region = codes "us-east-1"; account = codes "111122223333" }; name = record { text = codes "team/app" } }
+
+abbrev creation : Posed
+creation = api (asks (cell app (Create Mutable) None))
+
+posed : posed_of example_sites first_request ≡ creation
+unfolding posed_of is_json_call site_for named_site without_port reading action_of members_of typed_reading asked_by document are_typed first_bad parameter_text is_name utf8_valid_len is_utf8 chars serde_json_on_literals
+posed = refl
+
+abbrev ran : Run Reply
+ran = run example_realm fresh (posed_script creation 1700000000)
+
+answered : ran.answer ≡ Created 1700000000 Mutable
+unfolding posed_script asked_script call_script first_turn then_cell then_do run turn_at with_line fresh replay after_line first_directory registration standard steps.step steps.first_state steps.after_line
+answered = refl
+
+entered : ran.entries ≡ 2
+unfolding posed_script asked_script call_script first_turn then_cell then_do run turn_at with_line fresh replay after_line first_directory registration standard steps.step steps.first_state steps.after_line
+entered = refl
+
+rendered : posed_bytes creation false (Created 1700000000 Mutable) ≡ first_answer
+unfolding posed_bytes json reply_data repository_data json_head connection_line utf8_or_empty arn_of uri_of utf8_valid_len is_utf8 chars digits serde_json_on_literals
+rendered = refl
+
+-- what a request comes to, by what it poses
+outcome-posed : outcome_of example_realm fresh 1700000000 first_request ≡ ran
+outcome-posed = ap (λ p. run example_realm fresh (posed_script p 1700000000)) posed
+
 pub a_first_creation_is_answered : AFirstCreationIsAnswered
-unfolding written asked_at is_json_call site_for named_site without_port says_close creation document step reply_text json_head connection_line repository_body repository_data is_name utf8_or_empty arn_of uri_of utf8_valid_len is_utf8 chars digits serde_json_on_literals
-a_first_creation_is_answered = refl
+unfolding written says_close
+a_first_creation_is_answered =
+    ap (λ p. posed_bytes p false (outcome_of example_realm fresh 1700000000 first_request).answer) posed
+    ∙ ap (λ r. posed_bytes creation false r) (ap (λ (r : Run Reply). r.answer) outcome-posed ∙ answered) ∙ rendered
 
 pub a_first_session_is_written : AFirstSessionIsWritten
-unfolding replies interim waits framing_of max_body written left_by asked_at is_json_call site_for named_site without_port says_close creation document step reply_text json_head connection_line repository_body repository_data is_name utf8_or_empty arn_of uri_of utf8_valid_len is_utf8 chars digits serde_json_on_literals
-a_first_session_is_written = ((record { at_most = lit≤ tt; all = λ served. refl }, tt), refl)
+unfolding replies interim waits framing_of max_body
+a_first_session_is_written =
+    let two : (outcome_of example_realm fresh 1700000000 first_request).entries ≡ 2 = ap (λ (r : Run Reply). r.entries) outcome-posed ∙ entered in
+    ((record { at_most = omega (arith, two); all = λ served. sym two }, tt), append-nil (written example_realm fresh 1700000000 first_cut first_request ++ []) ∙ append-nil (written example_realm fresh 1700000000 first_cut first_request) ∙ a_first_creation_is_answered)
 
 -- ---- where its head ends
 

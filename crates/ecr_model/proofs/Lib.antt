@@ -11,3 +11,12 @@ pub mod EndLemmas
 pub mod ExampleLemmas
 pub mod ChunkExampleLemmas
 pub mod CommandLemmas
+pub mod JournalLemmas
+pub mod JournalExampleLemmas
+pub mod StepLemmas
+pub mod ApiExampleLemmas
+pub mod CrossingLemmas
+pub mod ScriptLemmas
+pub mod CellLemmas
+pub mod CreationLemmas
+pub mod CauseLemmas

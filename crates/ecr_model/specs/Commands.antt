@@ -3,10 +3,14 @@ use Rattle.std.specs.Prelude.{◌≡◌, ◌≢◌, ℕ, ◌≤◌, ◌<◌, Lis
 use Rattle.std.specs.Io.KnownBytes.{Appends, Keeps}
 use Rattle.ecr_model.specs.declared.names.TheConstants.{MAX_MOMENT}
 use Rattle.ecr_model.specs.declared.names.SiteId.{SiteId}
+use Rattle.ecr_model.specs.declared.journal.Place.{Place}
+use Rattle.ecr_model.specs.declared.outcome.Cut.{Cut}
 use Rattle.ecr_model.specs.declared.outcome.End.{End}
 use Rattle.ecr_model.specs.declared.outcome.End.TheVariants as ends
 use Rattle.ecr_model.specs.Sites.{site_word, IsSite}
-use Rattle.ecr_model.specs.Sessions.{Outside}
+use Rattle.ecr_model.specs.Limits.{standard}
+use Rattle.ecr_model.specs.Scripts.{World, fresh}
+use Rattle.ecr_model.specs.Sessions.{Outside, Account, Setting, Serves}
 
 -- the words of a clock that stands still, where it does
 abbrev pub clock_words : Option ℕ → List (List ℕ)
@@ -33,20 +37,37 @@ usage_lines =
     ++ codes "       ecrd bulk SEED COUNT" ++ 10 ∷ []
     ++ codes "       ecrd serve [--workers N] [--copiers N] ADDRESS SITE..." ++ 10 ∷ []
 
+-- nothing was read of the source, and the clock wasn't asked
+pub record IsIdle (before after : Outside) : Type 0 where
+  pub left : after.left ≡ before.left
+  pub told : after.told ≡ before.told
+  pub read_faults : after.read_faults ≡ before.read_faults
+
 -- a command that its words aren't: the lines were written, or a write failed after a part of them, or there was no
--- memory to read the words
+-- memory to read the words; in each case nothing was read
 abbrev pub SaysUsage : Outside → Outside → End → Type 0
-SaysUsage before after ends.Usage = Appends before.held after.held usage_lines
+SaysUsage before after ends.Usage = IsIdle before after × Appends before.held after.held usage_lines
 SaysUsage before after ends.WriteFault =
-    (before.write_faults < after.write_faults)
+    IsIdle before after × (before.write_faults < after.write_faults)
     × (taken : List ℕ) × (lost : List ℕ) × (usage_lines ≡ taken ++ lost) × Appends before.held after.held taken
-SaysUsage before after ends.Mem = Keeps before.held after.held
+SaysUsage before after ends.Mem = IsIdle before after × Keeps before.held after.held
 SaysUsage before after ends.Whole = ⊥
 SaysUsage before after ends.ReadFault = ⊥
 SaysUsage before after (ends.Truncated at) = ⊥
 SaysUsage before after (ends.Bad at) = ⊥
 SaysUsage before after (ends.TooLong at limit) = ⊥
 SaysUsage before after ends.Spent = ⊥
+
+-- the program's session at these sites: nothing is there at first
+abbrev pub fresh_session : List SiteId → Option ℕ → Setting
+fresh_session sites fixed = record { realm = record { served = sites; limits = standard }; first = fresh; fixed = fixed }
+
+-- what a command that serves a session reads, answers and writes, and how it ends; the cuts are those of its account
+pub record RunsSession (sites : List SiteId) (fixed : Option ℕ) (before after : Outside) (cuts : List Cut) (end : End) : Type 0 where
+  pub moments : List ℕ
+  pub places : List (List Place)
+  pub last : World
+  pub serves : Serves (fresh_session sites fixed) before after (record { moments = moments; places = places; cuts = cuts }) last end
 
 -- the exit status of a command
 abbrev pub status_of : End → ℕ

@@ -8,6 +8,8 @@ use Rattle.ecr_model.specs.Texts.{crlf}
 use Rattle.ecr_model.specs.declared.http.Framing.TheVariants.{Chunked}
 use Rattle.ecr_model.specs.Framing.{framing_of, max_body}
 use Rattle.ecr_model.specs.Stream.{complete, IsBody, Reads, Tail, ended}
+use Rattle.ecr_model.specs.Limits.{standard}
+use Rattle.ecr_model.specs.Scripts.{Realm, fresh}
 use Rattle.ecr_model.specs.Sessions.{written, AreCuts}
 use Rattle.ecr_model.specs.SessionLaws.{output_of}
 
@@ -39,9 +41,13 @@ first_request = record {
 abbrev pub example_sites : List SiteId
 example_sites = record { region = codes "us-east-1"; account = codes "111122223333" } ∷ []
 
--- it adds one entry
+-- the program's limits, at that site
+abbrev pub example_realm : Realm
+example_realm = record { served = example_sites; limits = standard }
+
+-- it adds two entries: the name's, and the repository's
 abbrev pub first_cut : Cut
-first_cut = record { entries = 1; failed = Bool.false; sealed = None }
+first_cut = record { entries = 2; failed = Bool.false; sealed = None }
 
 -- the answer to it, 1,700,000,000 seconds after 1970 began
 abbrev pub first_answer : List ℕ
@@ -53,7 +59,7 @@ first_answer =
 
 -- a site without repositories answers it like that
 abbrev pub AFirstCreationIsAnswered : Type 0
-AFirstCreationIsAnswered = written example_sites [] 1700000000 first_cut first_request ≡ first_answer
+AFirstCreationIsAnswered = written example_realm fresh 1700000000 first_cut first_request ≡ first_answer
 
 -- the input ends between two requests
 abbrev pub the_end : Tail
@@ -66,8 +72,9 @@ AFirstRequestIsRead = Reads first_bytes Bool.true (first_request ∷ []) the_end
 -- the cut is of the request, and what a session writes to it is that answer
 abbrev pub AFirstSessionIsWritten : Type 0
 AFirstSessionIsWritten =
-    AreCuts example_sites [] (first_request ∷ []) (1700000000 ∷ []) (first_cut ∷ [])
-    × (output_of example_sites (1700000000 ∷ []) (first_cut ∷ []) (first_request ∷ []) the_end ≡ first_answer)
+    AreCuts example_realm fresh (first_request ∷ []) (1700000000 ∷ []) (first_cut ∷ [])
+    × (output_of (record { realm = example_realm; first = fresh; fixed = Some 1700000000 })
+    (record { moments = 1700000000 ∷ []; places = []; cuts = first_cut ∷ [] }) (first_request ∷ []) the_end ≡ first_answer)
 
 -- the head of a request whose body comes in chunks
 abbrev pub chunked_head : Head

@@ -1,27 +1,8 @@
 -- Replies as bytes (RFC 9112, sections 4 and 6; RFC 9110, sections 9.3.2 and 15). Headers stand in byte order.
 use Rattle.std.specs.Prelude.{ℕ, Bool, List, [], ◌++◌, ◌==◌, length, codes, decimal, if◌then◌else◌, bytes_eq}
 use Rattle.ecr_model.specs.declared.http.Request.{Request}
-use Rattle.ecr_model.specs.declared.repository.Asked.{Asked}
-use Rattle.ecr_model.specs.declared.repository.Asked.TheVariants as asked
-use Rattle.ecr_model.specs.declared.repository.Reply.{Reply}
-use Rattle.ecr_model.specs.declared.repository.Reply.TheVariants.{Created, Refused, NotFound}
 use Rattle.ecr_model.specs.Texts.{crlf}
 use Rattle.ecr_model.specs.Framing.{max_head}
-use Rattle.ecr_model.specs.Bodies.{repository_body, refusal_body}
-
--- the status of a reply
-abbrev pub status_text : Reply → List ℕ
-status_text (Created created mutability) = codes "200 OK"
-status_text (Refused refusal) = codes "400 Bad Request"
-status_text NotFound = codes "404 Not Found"
-
--- the body of a reply; a refusal's says nothing of the repository
-abbrev pub body_text : Asked → Reply → List ℕ
-body_text (asked.Create key) (Created created mutability) = repository_body key created mutability
-body_text (asked.Refused refusal) (Created created mutability) = []
-body_text asked.Unrouted (Created created mutability) = []
-body_text ask (Refused refusal) = refusal_body refusal
-body_text ask NotFound = []
 
 -- the header of a reply after which the session closes
 unfoldable pub connection_line : Bool → List ℕ
@@ -45,17 +26,6 @@ empty_reply close status =
 -- a reply to HEAD has no body
 abbrev pub is_head : Request → Bool
 is_head request = bytes_eq request.method (codes "HEAD")
-
--- the reply up to its body
-abbrev pub head_text : Bool → Reply → ℕ → List ℕ
-head_text close (Created created mutability) size = json_head close (status_text (Created created mutability)) size
-head_text close (Refused refusal) size = json_head close (status_text (Refused refusal)) size
-head_text close NotFound size = empty_reply close (status_text NotFound)
-
--- the reply to what was asked
-unfoldable pub reply_text : Bool → Bool → Asked → Reply → List ℕ
-reply_text bare close ask reply =
-    head_text close reply (length (body_text ask reply)) ++ (if bare then [] else body_text ask reply)
 
 -- the body of the reply where there was no memory for another
 abbrev pub failed_body : List ℕ

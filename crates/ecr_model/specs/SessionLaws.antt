@@ -2,16 +2,15 @@
 use Rattle.std.specs.Prelude.{◌≡◌, ℕ, Bool, List, [], ◌++◌, length, Option, Some}
 use Rattle.std.specs.Io.KnownBytes.{Appends}
 use Rattle.ecr_model.specs.declared.http.Request.{Request}
-use Rattle.ecr_model.specs.declared.names.SiteId.{SiteId}
-use Rattle.ecr_model.specs.declared.outcome.Cut.{Cut}
 use Rattle.ecr_model.specs.declared.outcome.End.{End}
 use Rattle.ecr_model.specs.declared.outcome.End.TheVariants as ends
 use Rattle.ecr_model.specs.Stream.{Tail, Reads}
-use Rattle.ecr_model.specs.Sessions.{replies, last_words, Ends, Outside, Serviced, Completed}
+use Rattle.ecr_model.specs.Scripts.{World}
+use Rattle.ecr_model.specs.Sessions.{last_words, Ends, Outside, Account, Setting, sent_to, Serviced, Completed}
 
 -- all that a session writes
-abbrev pub output_of : List SiteId → List ℕ → List Cut → List Request → Tail → List ℕ
-output_of sites moments cuts requests tail = replies sites [] requests moments cuts ++ last_words tail
+abbrev pub output_of : Setting → Account → List Request → Tail → List ℕ
+output_of set account requests tail = sent_to set requests account ++ last_words tail
 
 -- an end that the bytes of the whole input decide
 abbrev pub IsOfInput : End → Type 0
@@ -41,11 +40,11 @@ IsOfRead ends.Spent = Unit {0}
 -- the end, where it isn't one of the machine's
 abbrev pub OutputIsDetermined : Type 0
 OutputIsDetermined =
-    (sites : List SiteId) (moments : List ℕ) (cuts : List Cut) (read : List ℕ) (over : Bool)
+    (set : Setting) (account : Account) (read : List ℕ) (over : Bool)
     (requests others : List Request) (tail last : Tail)
     → Reads read over requests tail → Reads read over others last
     → (requests ≡ others) × (tail ≡ last)
-    × (output_of sites moments cuts requests tail ≡ output_of sites moments cuts others last)
+    × (output_of set account requests tail ≡ output_of set account others last)
     × ((end other : End) → IsOfRead end → IsOfRead other
     → Ends end tail.ending (length read) → Ends other last.ending (length read) → end ≡ other)
 
@@ -54,10 +53,10 @@ OutputIsDetermined =
 -- last words. The session may have stopped before the input's end, where nothing further counts, and read no more
 abbrev pub TheInputDecidesTheEnd : Type 0
 TheInputDecidesTheEnd =
-    (sites : List SiteId) (fixed : Option ℕ) (before after : Outside) (cuts : List Cut) (end : End)
+    (set : Setting) (before after : Outside) (account : Account) (left : World) (end : End)
     (input : List ℕ) (requests : List Request) (tail : Tail)
-    → before.left ≡ Some input → Completed sites fixed before after cuts end → IsOfInput end
+    → before.left ≡ Some input → Completed set before after account left end → IsOfInput end
     → Reads input Bool.true requests tail
     → Ends end tail.ending (length input)
-    × (moments : List ℕ) × Serviced sites fixed before after requests moments cuts
-    × Appends before.held after.held (output_of sites moments cuts requests tail)
+    × Serviced set before after requests account left
+    × Appends before.held after.held (output_of set account requests tail)

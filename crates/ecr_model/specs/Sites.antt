@@ -1,7 +1,10 @@
 -- Sites, written as words of a command (of this registry), and a repository's ARN and URI at its site (Amazon
 -- ECR API Reference, `Repository`, `repositoryArn` and `repositoryUri`). Lengths are in bytes.
 use Rattle.std.specs.Prelude.{◌≡◌, ◌≤◌, ℕ, ◌-◌, Bool, ◌&&◌, ◌||◌, List, [], ◌∷◌, ◌++◌, Option, Some, None, length, take, drop, nat_le, slice_index, ◌==◌, if◌then◌else◌, IsTrue, codes}
+use Rattle.std.specs.Cmp.Lexicographic.{slice_cmp}
 use Rattle.std.specs.List.{list_all}
+use Rattle.std.specs.Ordering.{nat_cmp, ordering_then}
+use Rattle.std.specs.declared.cmp.Ordering.{Ordering}
 use Rattle.std.specs.Str.Lossy.{utf8_valid_len}
 use Rattle.ecr_model.specs.declared.names.SiteId.{SiteId}
 use Rattle.ecr_model.specs.declared.names.RepoKey.{RepoKey}
@@ -30,6 +33,10 @@ pub record IsAccount (text : List ℕ) : Type 0 where
 pub record IsSite (site : SiteId) : Type 0 where
   pub region_form : IsRegion site.region
   pub account_form : IsAccount site.account
+
+-- the order of two sites: that of their regions, and then that of their accounts
+abbrev pub site_order : SiteId → SiteId → Ordering
+site_order a b = ordering_then (slice_cmp nat_cmp a.region b.region) (slice_cmp nat_cmp a.account b.account)
 
 -- `REGION/ACCOUNT`
 abbrev pub site_word : SiteId → List ℕ

@@ -1,5 +1,5 @@
 // Cells and their journals.
-use crate::{Listed, Moment, RepoKey, SiteId};
+use crate::{Call, Digest, Listed, Moment, Name, RepoKey, SiteId};
 
 /// A part of the registry that has a journal of its own.
 #[derive(Drop)]
@@ -13,7 +13,7 @@ pub enum CellKey {
 /// The most that the registry keeps of each kind.
 #[derive(Clone, Copy, Debug, PartialEq, Eq)]
 pub struct Limits {
-    /// Of a site's names.
+    /// Of a site's names, those of deleted repositories among them.
     pub names: u64,
     /// Of a repository's images: below 2^32.
     pub images: u64,
@@ -34,15 +34,31 @@ pub struct Frame {
     pub limits: Limits,
 }
 
+/// What changed a cell.
+#[derive(Drop)]
+pub enum Act {
+    /// A call on a repository, with what its turn fixed beside it.
+    Called {
+        call: Call,
+        /// Those to which a push is copied; none of another call.
+        destinations: Listed<SiteId>,
+        /// The digest of all parts of a completed upload; none of another call.
+        sealed: Option<Digest>,
+    },
+    /// The name was registered in the directory.
+    Register(Name),
+}
+
 /// A change of a cell.
-#[derive(Clone, Copy, Debug, PartialEq, Eq)]
+#[derive(Drop)]
 pub struct Entry {
-    /// When it was made.
+    /// When it was made, in seconds; 0 in a directory.
     pub moment: Moment,
+    pub act: Act,
 }
 
 /// One line of a journal: an entry, the ticket of the turn that added it, and the number of its caller.
-#[derive(Clone, Copy, Debug, PartialEq, Eq)]
+#[derive(Drop)]
 pub struct Line {
     pub ticket: u64,
     pub caller: u64,
@@ -63,4 +79,23 @@ pub struct Place {
     pub ticket: u64,
     /// Whether the call added an entry.
     pub changed: bool,
+}
+
+impl Limits {
+    ghost use Rattle.std.specs.Prelude.{◌≡◌};
+    ghost use Rattle.ecr_model.specs.Limits.{standard};
+
+    /// The limits of the program: 100,000 names at a site and images in a repository, 1,000 tags of an image, and
+    /// uploads of 4,200 parts and 1,073,741,824 bytes.
+    pub fn standard() -> Limits
+        ensures { result ≡ standard }
+    {
+        Limits {
+            names: 100_000,
+            images: 100_000,
+            tags: 1_000,
+            parts: 4_200,
+            bytes: 1_073_741_824,
+        }
+    }
 }

@@ -1,5 +1,6 @@
 // The laws of the definitions that contracts cite. The functions do nothing: their contracts are the laws.
 ghost use Rattle.ecr_model.specs.Example.{AChunkedBodyIsRead, AFirstCreationIsAnswered, AFirstRequestIsRead, AFirstSessionIsWritten};
+ghost use Rattle.ecr_model.specs.ScriptLaws.{ACreationIsKept, NotFoundHasItsCause};
 ghost use Rattle.ecr_model.specs.SessionLaws.{OutputIsDetermined, TheInputDecidesTheEnd};
 ghost use Rattle.ecr_model.specs.StreamLaws.{ACutChangesNothing, AnEndStays, RequestsAreDetermined};
 
@@ -50,4 +51,15 @@ pub fn a_first_session_is_written()
 /// A body in one chunk, written out there too, is read as its data: of the bytes none is left.
 pub fn a_chunked_body_is_read()
     ensures { AChunkedBodyIsRead }
+{}
+
+/// A repository whose creation was answered as made has it in its journal once more than before.
+pub fn a_creation_is_kept()
+    ensures { ACreationIsKept }
+{}
+
+/// A call is answered RepositoryNotFound only where the name isn't registered, or the repository is absent, each as at the
+/// call's ticket.
+pub fn not_found_has_its_cause()
+    ensures { NotFoundHasItsCause }
 {}

@@ -1,7 +1,7 @@
 // Lists.
 ghost use Rattle.std.specs.Prelude.{◌≡◌, ◌++◌, ◌∷◌, [], List, OnOk, OnErr};
 
-use crate::Mem;
+use crate::{Mem, Twin};
 use std::alloc::Global;
 use std::marker::Model;
 
@@ -47,4 +47,17 @@ impl<T> Listed<T> {
     {
         self.list.as_slice()
     }
+}
+
+impl<T: Twin> Clone for Listed<T> {
+    ghost is_clone = { λ list copy. copy ≡ list };
+
+    fn clone(&self) -> Result<Listed<T>, Mem> {
+        let list = self.list.clone()?;
+        Ok(Listed { list })
+    }
+}
+
+impl<T: Twin> Twin for Listed<T> {
+    ghost same = { λ list copy is. is };
 }

@@ -1,5 +1,12 @@
-// Sites, repositories, digests and moments.
-use crate::Text;
+// Sites, repositories, tags, digests and moments.
+ghost use Rattle.std.specs.Prelude.{◌≡◌, Some, refl, bytes_eq};
+ghost use Rattle.std.proofs.Common.{arith};
+ghost use Rattle.std.specs.Cmp.{on_equiv, on_per, on_po, on_total, partial_equiv_from_equiv};
+ghost use Rattle.std.specs.Cmp.Lexicographic.{slice_cmp, nat_list_eq_equiv, nat_list_cmp_total, texts_po, texts_ties};
+ghost use Rattle.std.specs.Ordering.{nat_cmp};
+
+use crate::{Text, Twin};
+use std::cmp::Ordering;
 
 /// A moment: whole seconds since 1970-01-01T00:00:00Z, at most [`MAX_MOMENT`].
 pub type Moment = u64;
@@ -7,14 +14,20 @@ pub type Moment = u64;
 /// The last second of the year 9999.
 pub const MAX_MOMENT: u64 = 253_402_300_799;
 
-/// A repository's name: the text of it, well formed or not.
-#[derive(Drop)]
+/// A repository's name: the text of it, well formed or not. Names are in the order of their bytes.
+#[derive(Clone, Drop)]
 pub struct Name {
     pub text: Text,
 }
 
-/// A site: one region of one account.
-#[derive(Drop)]
+/// A tag (OCI Distribution 1.1, "Pulling manifests", `<reference>` as a tag): the text of it, well formed or not.
+#[derive(Clone, Drop)]
+pub struct Tag {
+    pub text: Text,
+}
+
+/// A site: one region of one account. Sites are in the order of their regions, and then of their accounts.
+#[derive(Clone, Drop, PartialEq, Eq, PartialOrd, Ord)]
 pub struct SiteId {
     /// As `us-east-1`.
     pub region: Text,
@@ -23,7 +36,7 @@ pub struct SiteId {
 }
 
 /// A repository: a name at a site.
-#[derive(Drop)]
+#[derive(Clone, Drop)]
 pub struct RepoKey {
     pub site: SiteId,
     pub name: Name,
@@ -33,4 +46,66 @@ pub struct RepoKey {
 #[derive(Clone, Copy, Debug, PartialEq, Eq)]
 pub struct Digest {
     pub bytes: [u8; 32],
+}
+
+/// A copy: what the push of that ticket at its source owes to one destination.
+#[derive(Drop)]
+pub struct CopyId {
+    pub source: RepoKey,
+    pub ticket: u64,
+    pub to: SiteId,
+}
+
+impl Twin for Name {
+    ghost same = { λ x y h. Prim.grind arith };
+}
+
+impl Twin for Tag {
+    ghost same = { λ x y h. Prim.grind arith };
+}
+
+impl Twin for SiteId {
+    ghost same = { λ x y h. Prim.grind arith };
+}
+
+impl Twin for RepoKey {
+    ghost same = { λ x y h. Prim.grind arith };
+}
+
+impl PartialEq for Name {
+    ghost eq = { λ a b. bytes_eq a.text b.text };
+
+    ghost laws = { on_per (λ n. n.text) (partial_equiv_from_equiv nat_list_eq_equiv) };
+
+    fn eq(&self, other: &Name) -> bool {
+        self.text.as_bytes() == other.text.as_bytes()
+    }
+}
+
+impl Eq for Name {
+    ghost laws = { on_equiv (λ n. n.text) nat_list_eq_equiv };
+}
+
+impl PartialOrd for Name {
+    ghost partial_cmp = { λ a b. Some (slice_cmp nat_cmp a.text b.text) };
+
+    ghost laws = { on_po (λ n. n.text) texts_po };
+
+    fn partial_cmp(&self, other: &Name) -> Option<Ordering> {
+        Some(self.cmp(other))
+    }
+}
+
+impl Ord for Name {
+    ghost cmp = { λ a b. slice_cmp nat_cmp a.text b.text };
+
+    ghost total = { on_total (λ n. n.text) nat_list_cmp_total };
+
+    ghost matches_partial_cmp = { λ a b. refl };
+
+    ghost matches_eq = { λ a b. texts_ties a.text b.text };
+
+    fn cmp(&self, other: &Name) -> Ordering {
+        self.text.as_bytes().cmp(other.text.as_bytes())
+    }
 }

@@ -2,7 +2,8 @@
 use Rattle.std.proofs.Common.{◌≡◌, ◌≢◌, ℕ, ◌<◌, ◌≤◌, Bool, cond, List, [], ◌∷◌, ◌++◌, refl, ap, ◌∙◌, ⊎_elim, inl, inr, arith, eq-eqb, ne_eqb, nat_lt, ◌==◌, append-nil, le-ltb, lt-ltb}
 use Rattle.std.proofs.lemmas.List.Elements.{filter-append}
 use Rattle.ecr_model.specs.declared.journal.Line.{Line}
-use Rattle.ecr_turn.specs.Journals.{Each, Rises, below, of_caller}
+use Rattle.ecr_model.specs.Journals.{below}
+use Rattle.ecr_turn.specs.Journals.{Each, Rises, of_caller}
 use Rattle.ecr_turn.specs.Laws.{WhatStoodStays, OthersAddNoneOfMine, ATurnAddsItsOwn}
 use Rattle.ecr_turn.proofs.Journals.{Rises-each}
 

@@ -1,5 +1,5 @@
 -- Journals, and what others add to them. Of this registry: docs/DEFINITIONS.md, "Turns".
-use Rattle.std.specs.Prelude.{◌≡◌, ◌≢◌, ◌⊎◌, ℕ, suc, ◌≤◌, nat_lt, ◌==◌, List, [], ◌∷◌, ◌++◌, filter}
+use Rattle.std.specs.Prelude.{◌≡◌, ◌≢◌, ◌⊎◌, ℕ, suc, ◌≤◌, ◌==◌, List, [], ◌∷◌, ◌++◌, filter}
 use Rattle.ecr_model.specs.declared.journal.Line.{Line}
 
 -- each line of the journal has the property
@@ -42,10 +42,6 @@ abbrev pub longer_of : List Line → List Line → List Line
 longer_of [] ys = ys
 longer_of (x ∷ xs) [] = x ∷ xs
 longer_of (x ∷ xs) (y ∷ ys) = x ∷ longer_of xs ys
-
--- the lines whose tickets are below this one
-abbrev pub below : ℕ → List Line → List Line
-below ticket = filter (λ l. nat_lt l.ticket ticket)
 
 -- the lines of this caller
 abbrev pub of_caller : ℕ → List Line → List Line

@@ -2,12 +2,13 @@
 // enough for an answer "as at this ticket".
 ghost use Rattle.std.specs.Prelude.{◌≡◌, ◌≤◌, ◌+◌, ◌++◌, ◌∷◌, [], List, OnOk, OnErr};
 ghost use Rattle.ecr_model.specs.declared.journal.Line.{Line as SpecLine};
-ghost use Rattle.ecr_turn.specs.Journals.{Grows, Follows, below};
+ghost use Rattle.ecr_model.specs.Journals.{below};
+ghost use Rattle.ecr_turn.specs.Journals.{Grows, Follows};
 ghost use Rattle.ecr_turn.specs.Passes.{IsSamePass, no_frame};
 ghost use Rattle.ecr_turn.specs.Register.{value_of};
 
 use crate::{Journal, Pass, Turnstile};
-use ecr_model::{Entry, Line, Mem};
+use ecr_model::{Act, Call, Entry, Line, Listed, Mem};
 use std::alloc::Global;
 use std::marker::Model;
 use std::sync::Wait;
@@ -58,14 +59,33 @@ impl Register {
         self.value
     }
 
+    // The line that sets the number: of its act nothing is used.
+    fn line(&self, ticket: u64, caller: u64, number: u64) -> Line
+        ensures { (result.ticket ≡ ticket) × (result.caller ≡ caller) × (result.entry.moment ≡ number) }
+    {
+        Line {
+            ticket,
+            caller,
+            entry: Entry {
+                moment: number,
+                act: Act::Called {
+                    call: Call::Describe,
+                    destinations: Listed::new(*self.lines.allocator()),
+                    sealed: None,
+                },
+            },
+        }
+    }
+
     // Sets the number that the line says.
     fn set(&mut self, line: Line) -> Result<(), Mem>
         ensures ok { OnOk result (self.new ≡ self.old ++ line ∷ []) }
         ensures value { OnOk result (value_of self.new ≡ line.entry.moment) }
         ensures err { OnErr result (self.new ≡ self.old) }
     {
+        let number = line.entry.moment;
         self.lines.push(line)?;
-        self.value = line.entry.moment;
+        self.value = number;
         Ok(())
     }
 }
@@ -104,11 +124,7 @@ pub(crate) fn set<R: Wait>(
     let caller = pass.caller();
     let mut turn = turnstile.enter(rt, pass);
     let ticket = turn.ticket();
-    let line = Line {
-        ticket,
-        caller,
-        entry: Entry { moment: number },
-    };
+    let line = turn.value().line(ticket, caller, number);
     let set = turn.change().set(line);
     (set, turn.leave())
 }

@@ -4,7 +4,7 @@ ghost use Rattle.ecr_turn.specs.Passes.{no_frame};
 
 use crate::register::{Register, get, set};
 use crate::{Journal, Pass, Turnstile};
-use ecr_model::{Entry, Line, Mem};
+use ecr_model::{Act, Call, Entry, Line, Listed, Mem};
 use std::alloc::Global;
 use std::sync::Wait;
 use std::test::Fail;
@@ -28,10 +28,20 @@ impl Journal for Log {
 }
 
 impl Log {
-    fn add(&mut self, line: Line)
-        ensures { MayFollow line.ticket line.caller self.old.lines.items self.new.lines.items }
+    fn add(&mut self, ticket: u64, caller: u64)
+        ensures { MayFollow ticket caller self.old.lines.items self.new.lines.items }
     {
-        match self.lines.push(line) {
+        let act = Act::Called {
+            call: Call::Describe,
+            destinations: Listed::new(*self.lines.allocator()),
+            sealed: None,
+        };
+        let entry = Entry { moment: 0, act };
+        match self.lines.push(Line {
+            ticket,
+            caller,
+            entry,
+        }) {
             Ok(()) => {}
             Err(_) => {}
         }
@@ -57,12 +67,7 @@ fn one_turn<R: Wait>(rt: &R, turnstile: &Turnstile<Log>, pass: Pass<Log>) -> Pas
     let caller = pass.caller();
     let mut turn = turnstile.enter(rt, pass);
     let ticket = turn.ticket();
-    let entry = Entry { moment: 0 };
-    turn.change().add(Line {
-        ticket,
-        caller,
-        entry,
-    });
+    turn.change().add(ticket, caller);
     turn.leave()
 }
 

@@ -1,0 +1,8 @@
+-- The content that comes with a call (Amazon ECR API Reference, UploadLayerPart, PutImage).
+use Rattle.std.specs.Prelude.{ℕ, List, Option, None}
+use Rattle.ecr_blob_upload.specs.declared.call.Load.{Load}
+use Rattle.ecr_blob_upload.specs.declared.call.Load.TheVariants.{Nothing}
+
+-- its bytes, where there is any
+abbrev pub given : Load → Option (List ℕ)
+given Nothing = None

@@ -1,0 +1,5 @@
+use Rattle.ecr_model.proofs.CreationLemmas.{a_creation_is_kept}
+use Rattle.ecr_model.proofs.laws.a_creation_is_kept.Goals as goal
+
+pub returns : goal.returns
+returns c = a_creation_is_kept

@@ -1,0 +1,5 @@
+use Rattle.ecr_model.proofs.CauseLemmas.{not_found_has_its_cause}
+use Rattle.ecr_model.proofs.laws.not_found_has_its_cause.Goals as goal
+
+pub returns : goal.returns
+returns c = not_found_has_its_cause

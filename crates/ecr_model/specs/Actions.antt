@@ -1,0 +1,149 @@
+-- The actions: the members of their bodies, and what a request asks for (Amazon ECR API Reference, "Actions"). The
+-- refusals have one order: first an unknown action, then a wrong JSON type, then the first member that is bad.
+use Rattle.std.specs.Prelude.{ℕ, Bool, true, false, ◌||◌, List, [], ◌∷◌, ◌++◌, map, Option, None, Some, if◌then◌else◌, codes, bytes_eq, unwrap_or, option_map, option_and_then, find}
+use Rattle.std.specs.Option.{option_map_or}
+use Rattle.serde_json.specs.Data.{Data}
+use Rattle.serde_json.specs.Find.{as_bool}
+use Rattle.ecr_model.specs.declared.action.Action.{Action}
+use Rattle.ecr_model.specs.declared.action.Action.TheVariants.{CreateRepository, DeleteRepository, DescribeRepositories, PutImageTagMutability}
+use Rattle.ecr_model.specs.declared.action.Domain.{Domain}
+use Rattle.ecr_model.specs.declared.action.Domain.TheVariants as domains
+use Rattle.ecr_model.specs.declared.action.Member.{Member}
+use Rattle.ecr_model.specs.declared.call.Call.{Call}
+use Rattle.ecr_model.specs.declared.call.Call.TheVariants.{Create, Delete, Describe, SetMutability}
+use Rattle.ecr_model.specs.declared.call.Page.{Page}
+use Rattle.ecr_model.specs.declared.call.SiteCall.{SiteCall}
+use Rattle.ecr_model.specs.declared.names.Name.{Name}
+use Rattle.ecr_model.specs.declared.names.RepoKey.{RepoKey}
+use Rattle.ecr_model.specs.declared.names.SiteId.{SiteId}
+use Rattle.ecr_model.specs.declared.refusal.Parameter.{Parameter}
+use Rattle.ecr_model.specs.declared.refusal.Parameter.TheVariants.{RegistryId, RepositoryName, ImageTagMutability, Force, RepositoryNames, MaxResults, NextToken}
+use Rattle.ecr_model.specs.declared.refusal.Refusal.{Refusal}
+use Rattle.ecr_model.specs.declared.refusal.Refusal.TheVariants.{InvalidParameter, UnknownOperation, Serialization}
+use Rattle.ecr_model.specs.declared.repository.Mutability.{Mutability}
+use Rattle.ecr_model.specs.declared.repository.Mutability.TheVariants.{Mutable, Immutable}
+use Rattle.ecr_model.specs.Members.{document, value_of, text_in, number_in, items_in, place_of, site_of, are_typed, first_bad}
+use Rattle.ecr_model.specs.Policies.{texts_of}
+
+-- what stands before an action's name in X-Amz-Target
+abbrev pub service : List ℕ
+service = codes "AmazonEC2ContainerRegistry_V20150921."
+
+-- the action's name
+abbrev pub action_name : Action → List ℕ
+action_name CreateRepository = codes "CreateRepository"
+action_name DeleteRepository = codes "DeleteRepository"
+action_name DescribeRepositories = codes "DescribeRepositories"
+action_name PutImageTagMutability = codes "PutImageTagMutability"
+
+-- the actions that are served
+abbrev pub all_actions : List Action
+all_actions = CreateRepository ∷ DeleteRepository ∷ DescribeRepositories ∷ PutImageTagMutability ∷ []
+
+-- the action that a target names
+unfoldable pub action_of : List ℕ → Option Action
+action_of target = find (λ action. bytes_eq target (service ++ action_name action)) all_actions
+
+-- ---- the members of a body, in their order
+
+-- a member that may be there
+abbrev pub may : Parameter → Domain → Member
+may parameter domain = record { parameter = parameter; domain = domain; required = false; apart = None }
+
+-- a member that must be there
+abbrev pub must : Parameter → Domain → Member
+must parameter domain = record { parameter = parameter; domain = domain; required = true; apart = None }
+
+-- a member that may be there where that one isn't
+abbrev pub unless : Parameter → Parameter → Domain → Member
+unless other parameter domain = record { parameter = parameter; domain = domain; required = false; apart = Some other }
+
+-- the members of an action's body
+unfoldable pub members_of : Action → List Member
+members_of CreateRepository =
+    may RegistryId domains.Account ∷ must RepositoryName domains.RepositoryName ∷ may ImageTagMutability domains.Mutability ∷ []
+members_of DeleteRepository =
+    may RegistryId domains.Account ∷ must RepositoryName domains.RepositoryName ∷ may Force domains.Truth ∷ []
+members_of DescribeRepositories =
+    may RegistryId domains.Account ∷ may RepositoryNames domains.RepositoryNames
+    ∷ unless RepositoryNames MaxResults domains.Results ∷ unless RepositoryNames NextToken domains.Token ∷ []
+members_of PutImageTagMutability =
+    may RegistryId domains.Account ∷ must RepositoryName domains.RepositoryName ∷ must ImageTagMutability domains.Mutability ∷ []
+
+-- ---- what is asked
+
+-- a call on a repository, with the bytes that come with it; a call on a site; or DescribeRepositories of the named
+-- repositories or of a page of all
+pub data Asked : Type 0 where
+  cell : RepoKey → Call → Option (List ℕ) → Asked
+  site : SiteId → SiteCall → Asked
+  many : SiteId → Option (List Name) → Page → Asked
+
+-- what a body asks for, or why it is refused
+pub data Reading : Type 0 where
+  asks : Asked → Reading
+  refuses : Refusal → Reading
+
+-- the text of a member; of an absent one, none
+abbrev pub text_at : Parameter → Data → List ℕ
+text_at parameter body = option_map_or text_in (value_of parameter body) []
+
+-- the site that `registryId` names, or else that to which the request came
+abbrev pub site_in : SiteId → List SiteId → Data → SiteId
+site_in base served body =
+    unwrap_or (option_and_then (λ value. site_of base served (text_in value)) (value_of RegistryId body)) base
+
+-- the repository of `repositoryName`
+abbrev pub key_in : SiteId → List SiteId → Data → RepoKey
+key_in base served body = record { site = site_in base served body; name = record { text = text_at RepositoryName body } }
+
+-- `imageTagMutability`, where it is there; else tags may move
+abbrev pub mutability_in : Data → Mutability
+mutability_in body = if bytes_eq (text_at ImageTagMutability body) (codes "IMMUTABLE") then Immutable else Mutable
+
+-- `force`, where it is there; else not
+abbrev pub force_in : Data → Bool
+force_in body = unwrap_or (option_and_then as_bool (value_of Force body)) false
+
+-- the names of `repositoryNames`, where it is there
+abbrev pub names_in : Data → Option (List Name)
+names_in body = option_map (λ value. map (λ text. record { text = text }) (texts_of (items_in value))) (value_of RepositoryNames body)
+
+-- the page from `nextToken` on of `maxResults` rows, where they are there; else the first page, of 100 rows
+abbrev pub page_in : Data → Page
+page_in body = record {
+  from = unwrap_or (place_of (text_at NextToken body)) 0;
+  max = option_map_or number_in (value_of MaxResults body) 100;
+}
+
+-- the call that the members of a body make
+unfoldable pub asked_by : SiteId → List SiteId → Action → Data → Asked
+asked_by base served CreateRepository body = cell (key_in base served body) (Create (mutability_in body)) None
+asked_by base served DeleteRepository body = cell (key_in base served body) (Delete (force_in body)) None
+asked_by base served DescribeRepositories body = many (site_in base served body) (names_in body) (page_in body)
+asked_by base served PutImageTagMutability body = cell (key_in base served body) (SetMutability (mutability_in body)) None
+
+-- the call, unless a member is bad
+abbrev pub unless_bad : Option Parameter → Asked → Reading
+unless_bad None asked = asks asked
+unless_bad (Some parameter) asked = refuses (InvalidParameter parameter)
+
+-- what a JSON value asks of an action
+unfoldable pub typed_reading : SiteId → List SiteId → Action → Data → Reading
+typed_reading base served action body = if are_typed (members_of action) body
+    then unless_bad (first_bad base served (members_of action) body) (asked_by base served action body)
+    else refuses Serialization
+
+-- what a body asks of an action
+abbrev pub body_reading : SiteId → List SiteId → Action → Option Data → Reading
+body_reading base served action None = refuses Serialization
+body_reading base served action (Some body) = typed_reading base served action body
+
+-- what a body asks of the action that was named, if it is one
+abbrev pub action_reading : SiteId → List SiteId → Option Action → List ℕ → Reading
+action_reading base served None body = refuses UnknownOperation
+action_reading base served (Some action) body = body_reading base served action (document body)
+
+-- the call that a target and a body make at that site, or why they are refused
+unfoldable pub reading : List ℕ → List ℕ → SiteId → List SiteId → Reading
+reading target body base served = action_reading base served (action_of target) body

@@ -1,0 +1,77 @@
+-- One repository and one directory, step by step.
+use Rattle.std.specs.Prelude.{◌≡◌, ℕ, List, [], ◌∷◌, Bool, true, false, Option, None, Some, codes}
+use Rattle.ecr_model.specs.declared.call.Call.{Call}
+use Rattle.ecr_model.specs.declared.call.Call.TheVariants.{Create, Delete, Describe, SetMutability}
+use Rattle.ecr_model.specs.declared.call.SiteCall.TheVariants as site_calls
+use Rattle.ecr_model.specs.declared.directory.Registered.TheVariants.{New, Known, Full}
+use Rattle.ecr_model.specs.declared.journal.Limits.{Limits}
+use Rattle.ecr_model.specs.declared.journal.Line.{Line}
+use Rattle.ecr_model.specs.declared.names.Name.{Name}
+use Rattle.ecr_model.specs.declared.names.RepoKey.{RepoKey}
+use Rattle.ecr_model.specs.declared.refusal.Refusal.TheVariants.{RepositoryAlreadyExists, RepositoryNotFound}
+use Rattle.ecr_model.specs.declared.reply.Reply.{Reply}
+use Rattle.ecr_model.specs.declared.reply.Reply.TheVariants as replies
+use Rattle.ecr_model.specs.declared.reply.SiteReply.TheVariants as site_replies
+use Rattle.ecr_model.specs.declared.repository.Mutability.TheVariants.{Mutable, Immutable}
+use Rattle.ecr_model.specs.Directories as directories
+use Rattle.ecr_model.specs.Limits.{standard}
+use Rattle.ecr_model.specs.Steps.{Turn, reply_at, line_of}
+
+-- `team/app` at `us-east-1/111122223333`
+abbrev pub app : RepoKey
+app = record { site = record { region = codes "us-east-1"; account = codes "111122223333" }; name = record { text = codes "team/app" } }
+
+-- a turn at that ticket, at the moment 1700000000 and so many seconds
+abbrev pub turn : ℕ → ℕ → Turn
+turn ticket moment = record { ticket = ticket; moment = moment; destinations = []; sealed = None }
+
+-- it was created, set, deleted, and created again
+abbrev pub history : List Line
+history = line_of 0 (turn 0 1700000000) (Create Mutable)
+    ∷ line_of 0 (turn 1 1700000001) (SetMutability Immutable)
+    ∷ line_of 3 (turn 5 1700000002) (Delete false)
+    ∷ line_of 0 (turn 6 1700000003) (Create Mutable)
+    ∷ []
+
+-- the reply to a call at that ticket
+abbrev pub reply : ℕ → Call → Reply
+reply ticket call = reply_at app standard history (turn ticket 1700000009) call
+
+-- the reply shows `team/app` as created then, in seconds
+abbrev pub row : ℕ → Reply → Type 0
+row created described = described ≡ replies.Described (record { name = app.name; created = created; mutability = Mutable } ∷ []) None
+
+-- what was answered at each ticket: the repository isn't there before it is created and after it is deleted, is shown as it
+-- was when it is deleted, and has its second moment afterwards
+pub record ARepositoryComesAndGoes : Type 0 where
+  pub not_yet : reply 0 Describe ≡ replies.Refused RepositoryNotFound
+  pub there : row 1700000000 (reply 1 Describe)
+  pub twice : reply 2 (Create Mutable) ≡ replies.Refused RepositoryAlreadyExists
+  pub set : reply 5 (Delete false) ≡ replies.Deleted 1700000000 Immutable
+  pub gone : reply 6 Describe ≡ replies.Refused RepositoryNotFound
+  pub gone_twice : reply 6 (Delete true) ≡ replies.Refused RepositoryNotFound
+  pub unset : reply 6 (SetMutability Mutable) ≡ replies.Refused RepositoryNotFound
+  pub again : row 1700000003 (reply 7 Describe)
+
+-- the name with that text
+abbrev pub name : List ℕ → Name
+name text = record { text = text }
+
+-- a limit of two names
+abbrev pub two : Limits
+two = record standard { names = 2 }
+
+-- `b1`, then `a1`
+abbrev pub registrations : List Line
+registrations = directories.line_of 0 0 (name (codes "b1")) ∷ directories.line_of 4 0 (name (codes "a1")) ∷ []
+
+-- the names stand in the order of their bytes, whatever was first; a third one is refused, a known one isn't
+pub record NamesAreInOrder : Type 0 where
+  pub ordered : (directories.replay two registrations).names ≡ name (codes "a1") ∷ name (codes "b1") ∷ []
+  pub first_page : directories.site_reply (directories.replay two registrations) (site_calls.Names (record { from = 0; max = 1 }))
+      ≡ site_replies.Names (name (codes "a1") ∷ []) true
+  pub last_page : directories.site_reply (directories.replay two registrations) (site_calls.Names (record { from = 1; max = 1 }))
+      ≡ site_replies.Names (name (codes "b1") ∷ []) false
+  pub full : directories.registration two (directories.replay two registrations) (name (codes "c1")) ≡ Full 2 2
+  pub known : directories.registration two (directories.replay two registrations) (name (codes "b1")) ≡ Known
+  pub before : directories.registration two (directories.directory_at two registrations 4) (name (codes "a1")) ≡ New

@@ -1,0 +1,50 @@
+-- What a request poses: its route, and what it asks of it (RFC 9112, section 3.2; Amazon ECR API Reference, "Actions").
+use Rattle.std.specs.Prelude.{ℕ, Bool, ◌&&◌, List, [], if◌then◌else◌, codes, bytes_eq, unwrap_or}
+use Rattle.ecr_model.specs.declared.http.Request.{Request}
+use Rattle.ecr_model.specs.declared.names.SiteId.{SiteId}
+use Rattle.ecr_model.specs.declared.refusal.Refusal.TheVariants.{UnknownOperation}
+use Rattle.ecr_model.specs.declared.reply.Reply.{Reply}
+use Rattle.ecr_model.specs.declared.reply.Reply.TheVariants.{Refused}
+use Rattle.ecr_model.specs.Actions.{Reading, asks, refuses, reading}
+use Rattle.ecr_model.specs.Fields.{first_value}
+use Rattle.ecr_model.specs.Framing.{path_of}
+use Rattle.ecr_model.specs.Hosts.{site_for}
+use Rattle.ecr_model.specs.Rendered.{json, refused}
+use Rattle.ecr_model.specs.Replies.{empty_reply}
+use Rattle.ecr_model.specs.Requests.{asked_script}
+use Rattle.ecr_model.specs.Scripts.{Script, ends}
+
+-- a call of the JSON API, or a target at which nothing is served
+pub data Posed : Type 0 where
+  api : Reading → Posed
+  unrouted : Posed
+
+-- the request is one of the JSON API
+unfoldable pub is_json_call : Request → Bool
+is_json_call request = bytes_eq request.method (codes "POST") && bytes_eq (path_of request.target) (codes "/")
+
+-- the value of X-Amz-Target; where it isn't there, no bytes
+abbrev pub target_of : Request → List ℕ
+target_of request = unwrap_or (first_value (codes "x-amz-target") request.fields) []
+
+-- the site that the request is for, of those that are served
+abbrev pub base_of : List SiteId → Request → SiteId
+base_of served request = site_for served (first_value (codes "host") request.fields)
+
+-- what the request poses to the sites that are served
+unfoldable pub posed_of : List SiteId → Request → Posed
+posed_of served request = if is_json_call request
+    then api (reading (target_of request) request.body (base_of served request) served)
+    else unrouted
+
+-- its turns, at that moment; what is refused as it is read, or isn't served, has none
+unfoldable pub posed_script : Posed → ℕ → Script Reply
+posed_script (api (asks asked)) moment = asked_script asked moment
+posed_script (api (refuses refusal)) moment = ends (Refused refusal)
+posed_script unrouted moment = ends (Refused UnknownOperation)
+
+-- the reply to it as bytes, where its turns come to that
+unfoldable pub posed_bytes : Posed → Bool → Reply → List ℕ
+posed_bytes (api (asks asked)) close reply = json asked reply close
+posed_bytes (api (refuses refusal)) close reply = refused refusal close
+posed_bytes unrouted close reply = empty_reply close (codes "404 Not Found")

@@ -1,0 +1,165 @@
+-- How a call on a repository is decided, and how it changes it (Amazon ECR API Reference, the actions). Moments are in
+-- seconds.
+use Rattle.std.specs.Prelude.{ℕ, ◌+◌, Bool, true, false, not, ◌&&◌, List, [], ◌∷◌, Option, None, Some, is_some, if◌then◌else◌}
+use Rattle.std.specs.Option.{option_map_or}
+use Rattle.ecr_model.specs.declared.call.Call.{Call}
+use Rattle.ecr_model.specs.declared.call.Call.TheVariants.{Create, Delete, Describe, SetMutability}
+use Rattle.ecr_model.specs.declared.images.Row.{Row}
+use Rattle.ecr_model.specs.declared.journal.Act.{Act}
+use Rattle.ecr_model.specs.declared.journal.Act.TheVariants.{Called, Register}
+use Rattle.ecr_model.specs.declared.journal.Limits.{Limits}
+use Rattle.ecr_model.specs.declared.journal.Line.{Line}
+use Rattle.ecr_model.specs.declared.lifecycle.Policy.{Policy}
+use Rattle.ecr_model.specs.declared.names.Digest.{Digest}
+use Rattle.ecr_model.specs.declared.names.RepoKey.{RepoKey}
+use Rattle.ecr_model.specs.declared.names.SiteId.{SiteId}
+use Rattle.ecr_model.specs.declared.refusal.Refusal.{Refusal}
+use Rattle.ecr_model.specs.declared.refusal.Refusal.TheVariants.{RepositoryAlreadyExists, RepositoryNotFound, RepositoryNotEmpty}
+use Rattle.ecr_model.specs.declared.reply.Reply.{Reply}
+use Rattle.ecr_model.specs.declared.reply.Reply.TheVariants.{Created, Deleted, Described, MutabilitySet, Refused}
+use Rattle.ecr_model.specs.declared.repository.Mutability.{Mutability}
+use Rattle.ecr_model.specs.declared.repository.Mutability.TheVariants.{Mutable, Immutable}
+use Rattle.ecr_model.specs.declared.repository.Presence.{Presence}
+use Rattle.ecr_model.specs.declared.repository.Repository.{Repository}
+use Rattle.ecr_model.specs.Journals as journals
+
+-- what a call comes to: the repository afterwards, where the call changes it, and the reply
+pub record Outcome : Type 0 where
+  pub after : Option Repository
+  pub reply : Reply
+
+-- nothing changes
+abbrev pub answers : Reply → Outcome
+answers reply = record { after = None; reply = reply }
+
+-- nothing changes, for that cause
+abbrev pub refuses : Refusal → Outcome
+refuses refusal = answers (Refused refusal)
+
+-- the repository is this from now on
+abbrev pub becomes : Repository → Reply → Outcome
+becomes after reply = record { after = Some after; reply = reply }
+
+-- the first state of a name: absent, and no birth or upload number was used
+unfoldable pub first_state : Repository
+first_state = record {
+  present = None;
+  images = [];
+  layers = [];
+  uploads = [];
+  policy = None;
+  version = 0;
+  evaluated = None;
+  preview = None;
+  copies = [];
+  received = [];
+  next_birth = 1;
+  next_upload = 1;
+  last_pushed = 0;
+}
+
+-- what is decided of a repository that is present; it is refused of another
+abbrev pub where_present : Repository → (Presence → Outcome) → Outcome
+where_present s decide = option_map_or decide s.present (refuses RepositoryNotFound)
+
+-- CreateRepository
+abbrev pub creates : ℕ → Mutability → Repository → Outcome
+creates moment mutability s = if is_some s.present
+    then refuses RepositoryAlreadyExists
+    else becomes (record s { present = Some (record { created = moment; mutability = mutability }) }) (Created moment mutability)
+
+-- whether there is an image
+abbrev pub has_images : List Row → Bool
+has_images [] = false
+has_images (row ∷ rows) = true
+
+-- how often a policy was set or dropped, where this one goes
+abbrev pub version_without : Option Policy → ℕ → ℕ
+version_without None version = version
+version_without (Some policy) version = version + 1
+
+-- the repository without all that its deletion drops; its counters, its copies and what it received stay
+abbrev pub emptied : Repository → Repository
+emptied s = record s {
+  present = None;
+  images = [];
+  layers = [];
+  uploads = [];
+  policy = None;
+  version = version_without s.policy s.version;
+  evaluated = None;
+  preview = None;
+}
+
+-- DeleteRepository; the reply shows the repository as it was
+abbrev pub deletes : Bool → Repository → Outcome
+deletes force s = where_present s (λ p. if not force && has_images s.images
+    then refuses RepositoryNotEmpty
+    else becomes (emptied s) (Deleted p.created p.mutability))
+
+-- one row of DescribeRepositories
+abbrev pub describes : RepoKey → Repository → Outcome
+describes key s = where_present s
+    (λ p. answers (Described (record { name = key.name; created = p.created; mutability = p.mutability } ∷ []) None))
+
+-- whether the two are the same
+abbrev pub same_mutability : Mutability → Mutability → Bool
+same_mutability Mutable Mutable = true
+same_mutability Mutable Immutable = false
+same_mutability Immutable Mutable = false
+same_mutability Immutable Immutable = true
+
+-- PutImageTagMutability; the value that stands changes nothing
+abbrev pub sets_mutability : Mutability → Repository → Outcome
+sets_mutability mutability s = where_present s (λ p. if same_mutability mutability p.mutability
+    then answers (MutabilitySet mutability)
+    else becomes (record s { present = Some (record p { mutability = mutability }) }) (MutabilitySet mutability))
+
+-- what a turn fixes beside the call: its ticket, its moment in seconds, the destinations of a push, and the digest of all
+-- parts of an upload that is completed
+pub record Turn : Type 0 where
+  pub ticket : ℕ
+  pub moment : ℕ
+  pub destinations : List SiteId
+  pub sealed : Option Digest
+
+-- what a call on the repository of that key comes to in a turn
+unfoldable pub step : RepoKey → Limits → Repository → Turn → Call → Outcome
+step key limits s turn (Create mutability) = creates turn.moment mutability s
+step key limits s turn (Delete force) = deletes force s
+step key limits s turn Describe = describes key s
+step key limits s turn (SetMutability mutability) = sets_mutability mutability s
+
+-- the repository after an act with that ticket and moment, where the act changes it; those of a directory don't
+abbrev pub after_act : RepoKey → Limits → Repository → ℕ → ℕ → Act → Option Repository
+after_act key limits s ticket moment (Called call destinations sealed) =
+    (step key limits s (record { ticket = ticket; moment = moment; destinations = destinations; sealed = sealed }) call).after
+after_act key limits s ticket moment (Register name) = None
+
+-- the repository after a line of its journal, where the line changes it
+unfoldable pub after_line : RepoKey → Limits → Repository → Line → Option Repository
+after_line key limits s line = after_act key limits s line.ticket line.entry.moment line.entry.act
+
+-- the repository that its journal leads to
+abbrev pub replay : RepoKey → Limits → List Line → Repository
+replay key limits lines = journals.replay (after_line key limits) first_state lines
+
+-- the repository's journal is sound
+abbrev pub IsSound : RepoKey → Limits → List Line → Type 0
+IsSound key limits lines = journals.IsSound (after_line key limits) first_state lines
+
+-- the repository as at a ticket of its journal
+abbrev pub repository_at : RepoKey → Limits → List Line → ℕ → Repository
+repository_at key limits lines ticket = journals.state_at (after_line key limits) first_state lines ticket
+
+-- what a call is answered in a turn of the journal
+abbrev pub reply_at : RepoKey → Limits → List Line → Turn → Call → Reply
+reply_at key limits lines turn call = (step key limits (repository_at key limits lines turn.ticket) turn call).reply
+
+-- the line that a call enters in a turn, under that caller's number
+abbrev pub line_of : ℕ → Turn → Call → Line
+line_of caller turn call = record {
+  ticket = turn.ticket;
+  caller = caller;
+  entry = record { moment = turn.moment; act = Called call turn.destinations turn.sealed };
+}
