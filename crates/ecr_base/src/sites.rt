@@ -2,10 +2,11 @@
 ghost use Rattle.std.specs.Prelude.{◌≡◌, ◌<◌, ◌↔◌, ℕ, List, IfOk, MatchOption, Some, length, string_bytes};
 ghost use Rattle.std.specs.Bool.{OnTrue};
 ghost use Rattle.std.specs.List.{list_all};
+ghost use Rattle.ecr_model.specs.declared.names.Name.{Name};
 ghost use Rattle.ecr_model.specs.declared.names.SiteId.{SiteId};
 ghost use Rattle.ecr_model.specs.Sites.{IsSite, ReadsSite, arn_of, is_account, is_digit, is_region, is_region_byte, is_site_word, site_of, site_word, uri_of, utf8_or_empty};
 
-use ecr_model::{Mem, RepoKey, SiteId, Text};
+use ecr_model::{Mem, Name, RepoKey, SiteId, Text};
 use std::alloc::Global;
 
 /// The bytes of an account and of the `/` before it.
@@ -32,33 +33,56 @@ pub fn site_has_one_reader()
     ensures reads_back { (site : SiteId) → IsSite site → site_of (site_word site) ≡ Some site }
 {}
 
-/// `arn:aws:ecr:REGION:ACCOUNT:repository/NAME`, or the empty text where that isn't UTF-8.
-#[tactic(auto, unfolding(ecr_model::specs::Sites::arn_of))]
+/// A repository's ARN: `arn:aws:ecr:REGION:ACCOUNT:repository/NAME`, or the empty text where that isn't UTF-8.
 pub fn write_arn(alloc: Global, key: &RepoKey) -> Result<String, Mem>
     ensures { IfOk result (λ text. string_bytes text ≡ arn_of key.now) }
 {
-    let mut arn = Vec::new(alloc);
-    arn.extend_from_slice(b"arn:aws:ecr:")?;
-    arn.extend_from_slice(key.site.region.as_bytes())?;
-    arn.extend_from_slice(b":")?;
-    arn.extend_from_slice(key.site.account.as_bytes())?;
-    arn.extend_from_slice(b":repository/")?;
-    arn.extend_from_slice(key.name.text.as_bytes())?;
-    utf8_or_empty(alloc, arn.as_slice())
+    write_arn_at(alloc, &key.site, &key.name)
 }
 
-/// `ACCOUNT.dkr.ecr.REGION.amazonaws.com/NAME`, or the empty text where that isn't UTF-8.
-#[tactic(auto, unfolding(ecr_model::specs::Sites::uri_of))]
+/// The ARN of the repository of that name at the site.
+#[tactic(auto, unfolding(ecr_model::specs::Sites::arn_of))]
+pub fn write_arn_at(alloc: Global, site: &SiteId, name: &Name) -> Result<String, Mem>
+    ensures { IfOk result
+        (λ text. string_bytes text ≡ arn_of (record { site = site.now; name = name.now })) }
+{
+    let mut arn = Vec::new(alloc);
+    arn.extend_from_slice(b"arn:aws:ecr:")?;
+    arn.extend_from_slice(site.region.as_bytes())?;
+    arn.extend_from_slice(b":")?;
+    arn.extend_from_slice(site.account.as_bytes())?;
+    arn.extend_from_slice(b":repository/")?;
+    arn.extend_from_slice(name.text.as_bytes())?;
+    write_utf8(alloc, arn.as_slice())
+}
+
+/// A repository's URI: `ACCOUNT.dkr.ecr.REGION.amazonaws.com/NAME`, or the empty text where that isn't UTF-8.
 pub fn write_uri(alloc: Global, key: &RepoKey) -> Result<String, Mem>
     ensures { IfOk result (λ text. string_bytes text ≡ uri_of key.now) }
 {
+    write_uri_at(alloc, &key.site, &key.name)
+}
+
+/// The URI of the repository of that name at the site.
+#[tactic(auto, unfolding(ecr_model::specs::Sites::uri_of))]
+pub fn write_uri_at(alloc: Global, site: &SiteId, name: &Name) -> Result<String, Mem>
+    ensures { IfOk result
+        (λ text. string_bytes text ≡ uri_of (record { site = site.now; name = name.now })) }
+{
     let mut uri = Vec::new(alloc);
-    uri.extend_from_slice(key.site.account.as_bytes())?;
+    uri.extend_from_slice(site.account.as_bytes())?;
     uri.extend_from_slice(b".dkr.ecr.")?;
-    uri.extend_from_slice(key.site.region.as_bytes())?;
+    uri.extend_from_slice(site.region.as_bytes())?;
     uri.extend_from_slice(b".amazonaws.com/")?;
-    uri.extend_from_slice(key.name.text.as_bytes())?;
-    utf8_or_empty(alloc, uri.as_slice())
+    uri.extend_from_slice(name.text.as_bytes())?;
+    write_utf8(alloc, uri.as_slice())
+}
+
+/// The text as a `str`, or the empty one where it isn't UTF-8.
+pub fn utf8_or_empty(text: &Text) -> &str
+    ensures { result.now ≡ utf8_or_empty text.now }
+{
+    utf8_of(text.as_bytes())
 }
 
 /// Whether the word is a region, a `/` and an account.
@@ -116,12 +140,19 @@ fn is_digit(byte: u8) -> bool
     matches!(byte, b'0'..=b'9')
 }
 
-/// The text of these bytes, or the empty one where they aren't UTF-8.
-fn utf8_or_empty(alloc: Global, bytes: &[u8]) -> Result<String, Mem>
+/// A copy of these bytes as a text, or the empty text where they aren't UTF-8.
+fn write_utf8(alloc: Global, bytes: &[u8]) -> Result<String, Mem>
     ensures { IfOk result (λ text. string_bytes text ≡ utf8_or_empty bytes.now) }
 {
+    String::from_str(alloc, utf8_of(bytes))
+}
+
+/// The text of these bytes, or the empty one where they aren't UTF-8.
+fn utf8_of(bytes: &[u8]) -> &str
+    ensures { result.now ≡ utf8_or_empty bytes.now }
+{
     match str::from_utf8(bytes) {
-        Ok(text) => String::from_str(alloc, text),
-        Err(_) => Ok(String::new(alloc)),
+        Ok(text) => text,
+        Err(_) => "",
     }
 }

@@ -1,5 +1,8 @@
-use crate::{is_name, read_digest, read_name, read_site, write_arn, write_digest, write_uri};
-use ecr_model::RepoKey;
+use crate::{
+    is_name, is_tag, read_digest, read_name, read_site, read_tag, utf8_or_empty, write_arn,
+    write_digest, write_upload_id, write_uri,
+};
+use ecr_model::{RepoKey, Text};
 use std::test::Fail;
 
 #[test]
@@ -71,5 +74,43 @@ fn a_digest_is_read_as_it_is_written(rt: HostRuntime) -> Result<(), Fail> {
     {
         assert!(rt; read_digest(text.as_bytes()).is_none(), "{text}");
     }
+    Ok(())
+}
+
+#[test]
+fn a_tag_has_1_to_128_bytes(rt: HostRuntime) -> Result<(), Fail> {
+    for text in ["a", "Z", "0", "_", "v1.2-rc_3", "a..--__"].iter() {
+        assert!(rt; is_tag(text.as_bytes()), "{text}");
+        assert!(rt; read_tag(rt.alloc(), text.as_bytes())?.is_some(), "{text}");
+    }
+    for text in ["", "-a", ".a", "a/b", "a b", "a:b", "é", "aé"].iter() {
+        assert!(rt; !is_tag(text.as_bytes()), "{text}");
+        assert!(rt; read_tag(rt.alloc(), text.as_bytes())?.is_none(), "{text}");
+    }
+    assert!(rt; is_tag(&[b'a'; 128]));
+    assert!(rt; !is_tag(&[b'a'; 129]));
+    Ok(())
+}
+
+#[test]
+fn an_upload_id_is_its_number(rt: HostRuntime) -> Result<(), Fail> {
+    for (number, id) in [
+        (1, "00000000-0000-0000-0000-000000000001"),
+        (4294967297, "00000000-0000-0000-0000-000100000001"),
+        (18446744073709551615, "00000000-0000-0000-ffff-ffffffffffff"),
+    ]
+    .iter()
+    {
+        assert_eq!(rt; write_upload_id(rt.alloc(), *number)?.as_str(), *id);
+    }
+    Ok(())
+}
+
+#[test]
+fn what_is_not_utf8_is_empty(rt: HostRuntime) -> Result<(), Fail> {
+    let text = Text::copy_of(rt.alloc(), "é".as_bytes())?;
+    assert_eq!(rt; utf8_or_empty(&text), "é");
+    let cut = Text::copy_of(rt.alloc(), &[b'a', 0xc3])?;
+    assert_eq!(rt; utf8_or_empty(&cut), "");
     Ok(())
 }

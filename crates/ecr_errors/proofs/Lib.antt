@@ -1,0 +1,2 @@
+pub mod DigestsLemmas
+pub mod RefusalsLemmas
