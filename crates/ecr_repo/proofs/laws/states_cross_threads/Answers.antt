@@ -1,0 +1,7 @@
+use denote.Param.Send.{sendable}
+use Rattle.std.proofs.Crossing.{crosses}
+use Rattle.ecr_model.proofs.CrossingLemmas.{Line-send}
+use Rattle.ecr_repo.proofs.laws.states_cross_threads.Goals as goal
+
+pub returns : goal.returns
+returns c = search (Line-send, sendable, crosses) depth 60 fits 20000

@@ -1,0 +1,67 @@
+-- A repository's name with its journal, and what goes with a call on it (Amazon ECR API Reference, the actions). Tickets
+-- count from 0, moments are in seconds.
+use Rattle.std.specs.Prelude.{◌≡◌, ℕ, Bool, List, [], ◌∷◌, ◌++◌, None, is_some, if◌then◌else◌}
+use Rattle.ecr_model.specs.declared.call.Call.{Call}
+use Rattle.ecr_model.specs.declared.call.Call.TheVariants.{Create, Delete, Describe, SetMutability}
+use Rattle.ecr_model.specs.declared.journal.Limits.{Limits}
+use Rattle.ecr_model.specs.declared.journal.Line.{Line}
+use Rattle.ecr_model.specs.declared.names.RepoKey.{RepoKey}
+use Rattle.ecr_model.specs.declared.names.SiteId.{SiteId}
+use Rattle.ecr_model.specs.declared.reply.Reply.{Reply}
+use Rattle.ecr_model.specs.declared.repository.Repository.{Repository}
+use Rattle.ecr_model.specs.Steps.{Outcome, Turn, step, replay, line_of}
+use Rattle.ecr_blob_upload.specs.declared.call.Load.{Load}
+use Rattle.ecr_blob_upload.specs.declared.call.Load.TheVariants.{Nothing}
+
+-- a name at a site, the limits that hold there, and all that changed it, the first change first
+pub record State : Type 0 where
+  pub key : RepoKey
+  pub limits : Limits
+  pub journal : List Line
+
+-- the repository that the journal leads to
+abbrev pub repository_now : State → Repository
+repository_now state = replay state.key state.limits state.journal
+
+-- a turn in which no upload is completed
+abbrev pub turn_at : ℕ → ℕ → List SiteId → Turn
+turn_at ticket moment destinations = record { ticket = ticket; moment = moment; destinations = destinations; sealed = None }
+
+-- what a call comes to in a turn
+abbrev pub outcome_of : State → Turn → Call → Outcome
+outcome_of state turn call = step state.key state.limits (repository_now state) turn call
+
+-- what the call is answered
+abbrev pub reply_to : State → Turn → Call → Reply
+reply_to state turn call = (outcome_of state turn call).reply
+
+-- whether the call changes the repository
+abbrev pub changes : State → Turn → Call → Bool
+changes state turn call = is_some (outcome_of state turn call).after
+
+-- with that line behind the others
+abbrev pub with_entry : State → Line → State
+with_entry state line = record state { journal = state.journal ++ line ∷ [] }
+
+-- after a call: with its line, under that caller's number, where it changes the repository, and as before where it doesn't
+abbrev pub after_call : State → ℕ → Turn → Call → State
+after_call state caller turn call =
+    if changes state turn call then with_entry state (line_of caller turn call) else state
+
+-- the call asks, and changes nothing
+abbrev pub AnswersOnly : Call → Type 0
+AnswersOnly (Create mutability) = ⊥
+AnswersOnly (Delete force) = ⊥
+AnswersOnly Describe = Unit {0}
+AnswersOnly (SetMutability mutability) = ⊥
+
+-- no content and no destinations
+abbrev pub IsBare : Load → List SiteId → Type 0
+IsBare load destinations = (load ≡ Nothing) × (destinations ≡ [])
+
+-- the content and the destinations are such as the call has
+abbrev pub Fits : Call → Load → List SiteId → Type 0
+Fits (Create mutability) load destinations = IsBare load destinations
+Fits (Delete force) load destinations = IsBare load destinations
+Fits Describe load destinations = IsBare load destinations
+Fits (SetMutability mutability) load destinations = IsBare load destinations

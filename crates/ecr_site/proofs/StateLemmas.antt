@@ -1,0 +1,65 @@
+-- The laws of a site's journal.
+use Rattle.std.proofs.Common.{◌≡◌, ◌≤◌, ◌+◌, ◌∷◌, ◌++◌, ◌||◌, ◌∙◌, ℕ, suc, List, [], Some, unwrap_or, refl, sym, ap, arith, bytes_eq}
+use Rattle.std.specs.BTreeMap.{is_at}
+use Rattle.std.specs.BTreeSet.{insert_key}
+use Rattle.std.specs.List.{list_any}
+use Rattle.std.proofs.lemmas.Bool.Decides.{same_from_decides, Decides-like}
+use Rattle.std.proofs.lemmas.Map.Text.{is_eq-slice_cmp}
+use Rattle.std.proofs.lemmas.Slice.Eq.{bytes_eq-Decides}
+use Rattle.ecr_model.specs.declared.directory.Directory.{Directory}
+use Rattle.ecr_model.specs.declared.directory.Registered.TheVariants.{New}
+use Rattle.ecr_model.specs.declared.journal.Limits.{Limits}
+use Rattle.ecr_model.specs.declared.journal.Line.{Line}
+use Rattle.ecr_model.specs.declared.names.Name.{Name}
+use Rattle.ecr_model.specs.Directories.{name_order, first_directory, registration, registered, with_name, after_line, replay, line_of}
+use Rattle.ecr_model.specs.Journals as journals
+use Rattle.ecr_model.specs.Journals.{past_from, past}
+use Rattle.ecr_model.proofs.JournalLemmas.{replay_goes_on, a_sound_journal_grows}
+use Rattle.ecr_site.specs.States.{SiteJournal, with_line, IsKept}
+
+-- the order of the two doesn't matter
+bytes_eq-swap : (a b : List ℕ) → bytes_eq a b ≡ bytes_eq b a
+bytes_eq-swap a b =
+    same_from_decides (bytes_eq a b) (bytes_eq b a) (bytes_eq-Decides a b)
+    (Decides-like (bytes_eq b a) sym sym (bytes_eq-Decides b a))
+
+-- a set in order has the names that are equal to one of it
+pub list_any-name_order : (name : Name) (names : List Name) → list_any (is_at (name_order name)) names ≡ list_any (λ n. bytes_eq n.text name.text) names
+list_any-name_order name [] = refl
+list_any-name_order name (n ∷ ns) = λ i. (is_eq-slice_cmp name.text n.text ∙ bytes_eq-swap name.text n.text) i || list_any-name_order name ns i
+
+-- no name is registered at first
+pub IsKept-first : (limits : Limits) → IsKept limits [] []
+unfolding first_directory journals.replay journals.IsSoundFrom
+IsKept-first limits = record { sound = tt; same = refl }
+
+-- what the line of a new name makes of the directory
+after_line-line_of : (limits : Limits) (d : Directory) (ticket caller : ℕ) (name : Name) → registration limits d name ≡ New → after_line limits d (line_of ticket caller name) ≡ Some (with_name name d)
+unfolding after_line
+after_line-line_of limits d ticket caller name new = ap (registered name d) new
+
+-- a new name is entered at a later ticket
+pub IsKept-line_of : (limits : Limits) (journal : List Line) (names : List Name) (ticket caller : ℕ) (name : Name)
+    → IsKept limits journal names → past journal ≤ ticket → registration limits (replay limits journal) name ≡ New
+    → IsKept limits (journal ++ line_of ticket caller name ∷ []) (insert_key name_order names name)
+IsKept-line_of limits journal names ticket caller name kept later new =
+    let d : Directory = replay limits journal in
+    let line : Line = line_of ticket caller name in
+    let changes : after_line limits d line ≡ Some (with_name name d) = after_line-line_of limits d ticket caller name new in
+    let next : replay limits (journal ++ line ∷ []) ≡ with_name name d =
+    replay_goes_on (after_line limits) first_directory journal line ∙ ap (λ o. unwrap_or o d) changes in
+    record {
+      sound = a_sound_journal_grows (after_line limits) first_directory journal line (with_name name d) kept.sound later changes;
+      same = ap (λ ns. insert_key name_order ns name) kept.same ∙ sym (ap (λ e. e.names) next);
+    }
+
+-- ---- the tickets
+
+-- with one line more, its ticket is the last
+past_from-push : (low : ℕ) (lines : List Line) (line : Line) → past_from low (lines ++ line ∷ []) ≡ suc line.ticket
+past_from-push low [] line = refl
+past_from-push low (l ∷ ls) line = past_from-push (suc l.ticket) ls line
+
+-- so the next ticket is above all
+pub past-with_line : (s : SiteJournal) (ticket caller : ℕ) (name : Name) → past (with_line s (line_of ticket caller name)).journal ≤ ticket + 1
+past-with_line s ticket caller name = rw (past_from-push 0 s.journal (line_of ticket caller name)) (omega arith)

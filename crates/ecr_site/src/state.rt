@@ -1,0 +1,175 @@
+// A site's directory, and its changes.
+ghost use Rattle.std.specs.Prelude.{◌≡◌, ◌≤◌, ◌+◌, [], IfOk, OnErr, OnOk, length, take, drop};
+ghost use Rattle.ecr_model.specs.Directories.{is_registered, line_of, names_of, IsSound};
+ghost use Rattle.ecr_model.specs.Journals.{past};
+ghost use Rattle.ecr_model.specs.declared.directory.Registered.TheVariants.{New};
+ghost use Rattle.ecr_site.specs.States.{after_register, directory_of, registration_in, with_line};
+
+use ecr_model::{Act, Entry, Limits, Line, Mem, Name, Registered, SiteId, Text};
+use std::alloc::Global;
+use std::collections::BTreeSet;
+use std::marker::Model;
+
+/// The names of a site. Contracts see its journal, which leads to the directory that `ecr_model` defines.
+#[derive(Drop)]
+pub struct SiteState {
+    site: SiteId,
+    served: Vec<SiteId>,
+    limits: Limits,
+    journal: Vec<Line>,
+    names: BTreeSet<Name>,
+}
+
+impl Model for SiteState {
+    ghost use Rattle.ecr_site.specs.States.{SiteJournal, IsKept};
+
+    ghost Value = { SiteJournal };
+
+    ghost view = { λ s. record { site = s.site; served = s.served.items; limits = s.limits; journal = s.journal.items } };
+
+    // The names are kept in their order, so that no call replays the journal.
+    ghost invariant = { λ s. IsKept s.limits s.journal.items s.names.keys };
+}
+
+impl SiteState {
+    /// The directory of a site with no name, of a registry that serves these sites. It takes no memory.
+    pub fn new(alloc: Global, site: SiteId, served: Vec<SiteId>, limits: Limits) -> SiteState
+        ensures { result ≡ record { site = site; served = served.items; limits = limits; journal = [] } }
+    {
+        SiteState {
+            site,
+            served,
+            limits,
+            journal: Vec::new(alloc),
+            names: BTreeSet::new(alloc),
+        }
+    }
+
+    /// How many lines its journal has.
+    pub fn entries(&self) -> u64
+        ensures { result ≡ length self.now.journal }
+    {
+        self.journal.len() as u64
+    }
+
+    /// How many names are registered.
+    pub fn count(&self) -> u64
+        ensures { result ≡ length (directory_of self.now).names }
+    {
+        self.names.len() as u64
+    }
+
+    /// Whether the name is registered. It takes about as many comparisons as the logarithm of their number.
+    pub fn knows(&self, name: &Name) -> bool
+        ensures { result ≡ is_registered name.now (directory_of self.now) }
+    {
+        self.names.contains(name)
+    }
+
+    /// At most `max` of the names in the order of their bytes, from the one at the place `from` on, counted from 0. There
+    /// are more where `from + max` is below [`SiteState::count`]. The names before them are stepped over one by one.
+    pub fn names(&self, alloc: Global, from: u64, max: u32) -> Result<Vec<Name>, Mem>
+        ensures { IfOk result (λ v. v.items ≡ names_of (record { from = from; max = max }) (directory_of self.now)) }
+    {
+        page_of(alloc, &self.names, from as usize, max as usize)
+    }
+
+    /// Registers the name in the turn of that ticket, under that caller's number, where it is new and the limit isn't
+    /// reached. After an `Err` the directory is as before.
+    ///
+    /// The ticket is above all in the journal.
+    pub fn register(
+        &mut self,
+        alloc: Global,
+        ticket: u64,
+        caller: u64,
+        name: &Name,
+    ) -> Result<Registered, Mem>
+        requires later { past self.old.journal ≤ ticket }
+        ensures exact { IfOk result (λ r. r ≡ registration_in self.old name.now) }
+        ensures entered { OnOk result (self.new ≡ after_register self.old ticket caller name.now) }
+        ensures err { OnErr result (self.new ≡ self.old) }
+
+        // So any later ticket is above all again.
+        ensures below { past self.new.journal ≤ ticket + 1 }
+    {
+        let registered = self.registration(name);
+        if registered == Registered::New {
+            self.enter(alloc, ticket, caller, name)?;
+        }
+        Ok(registered)
+    }
+
+    /// What becomes of the name, if it is to be registered now.
+    #[tactic(auto, unfolding(ecr_model::specs::Directories::registration))]
+    fn registration(&self, name: &Name) -> Registered
+        ensures { result ≡ registration_in self.now name.now }
+    {
+        if self.knows(name) {
+            return Registered::Known;
+        }
+        let count = self.count();
+        let limit = self.limits.names;
+        if count < limit {
+            Registered::New
+        } else {
+            Registered::Full { limit, count }
+        }
+    }
+
+    /// Enters the line of a new name.
+    fn enter(&mut self, alloc: Global, ticket: u64, caller: u64, name: &Name) -> Result<(), Mem>
+        requires later { past self.old.journal ≤ ticket }
+        requires new { registration_in self.old name.now ≡ New }
+        ensures ok { OnOk result (self.new ≡ with_line self.old (line_of ticket caller name.now)) }
+        ensures err { OnErr result (self.new ≡ self.old) }
+    {
+        self.journal.reserve(1)?;
+        let told = copy_of(alloc, name)?;
+        let kept = copy_of(alloc, name)?;
+        // The last step that may fail; where it does, the set is as before.
+        self.names.insert(kept)?;
+        self.journal.push_reserved(line_of(ticket, caller, told));
+        Ok(())
+    }
+}
+
+/// A copy of the name.
+fn copy_of(alloc: Global, name: &Name) -> Result<Name, Mem>
+    ensures { IfOk result (λ copy. copy ≡ name.now) }
+{
+    let text = Text::copy_of(alloc, name.text.as_bytes())?;
+    Ok(Name { text })
+}
+
+/// The line that a registration enters.
+fn line_of(ticket: u64, caller: u64, name: Name) -> Line
+    ensures { result ≡ line_of ticket caller name }
+{
+    Line {
+        ticket,
+        caller,
+        entry: Entry {
+            moment: 0,
+            act: Act::Register(name),
+        },
+    }
+}
+
+/// Copies of at most `max` of the names, from the place `from` on.
+fn page_of(alloc: Global, names: &BTreeSet<Name>, from: usize, max: usize) -> Result<Vec<Name>, Mem>
+    ensures { IfOk result (λ v. v.items ≡ take max (drop from names.now.keys)) }
+{
+    let mut page = Vec::new(alloc);
+    for name in names.iter().skip(from).take(max) {
+        page.push(copy_of(alloc, name)?)?;
+    }
+    Ok(page)
+}
+
+/// The journal of a directory is sound.
+pub fn a_journal_is_sound(state: &SiteState)
+    ensures { IsSound state.now.limits state.now.journal }
+{
+    let _ = &state.journal;
+}
