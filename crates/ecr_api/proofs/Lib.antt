@@ -1,0 +1,4 @@
+pub mod ItemLemmas
+pub mod PlaceLemmas
+pub mod ReadLemmas
+pub mod TokenLemmas

@@ -1,0 +1,52 @@
+-- What was read of a body (Amazon ECR API Reference, "Actions").
+use Rattle.std.specs.Prelude.{◌≡◌, ◌≤◌, List, [], ◌∷◌, Option, None, Some, Result, Ok, Err}
+use Rattle.std.specs.Option.{option_map_or}
+use Rattle.serde_json.specs.Data.{Data}
+use Rattle.ecr_model.specs.declared.action.Member.{Member}
+use Rattle.ecr_model.specs.declared.refusal.Parameter.{Parameter}
+use Rattle.ecr_model.specs.declared.refusal.Parameter.TheVariants.{MaxResults, Manifest, Policy}
+use Rattle.ecr_model.specs.Actions as actions
+use Rattle.ecr_model.specs.Members.{number_in, value_of}
+use Rattle.ecr_blob_upload.specs.Loads.{given}
+use Rattle.ecr_errors.specs.Parts.{HasItsUpload}
+use Rattle.ecr_api.specs.declared.asked.ApiRefusal.{ApiRefusal}
+use Rattle.ecr_api.specs.declared.asked.ApiRefusal.TheVariants.{Refused, Mem}
+use Rattle.ecr_api.specs.declared.asked.Asked.{Asked}
+use Rattle.ecr_api.specs.declared.asked.Asked.TheVariants.{Cell, Site, Many}
+
+-- what is asked, with the bytes that come with it
+abbrev pub meaning : Asked → actions.Asked
+meaning (Cell key call load) = actions.cell key call (given load)
+meaning (Site site call) = actions.site site call
+meaning (Many site names page) = actions.many site names page
+
+-- the reading asks for this, or refuses the body like that; of a want of memory nothing is said
+abbrev pub Reads : Result Asked ApiRefusal → actions.Reading → Type 0
+Reads (Ok asked) reading = reading ≡ actions.asks (meaning asked)
+Reads (Err (Refused refusal)) reading = reading ≡ actions.refuses refusal
+Reads (Err Mem) reading = Unit {0}
+
+-- the body isn't refused for a part of an upload
+abbrev pub NamesNoPart : ApiRefusal → Type 0
+NamesNoPart (Refused refusal) = HasItsUpload refusal None None
+NamesNoPart Mem = Unit {0}
+
+-- the parameter is a member of a body, and no text in one
+abbrev pub IsMember : Parameter → Type 0
+IsMember (Manifest fault) = ⊥
+IsMember (Policy fault) = ⊥
+IsMember parameter = Unit {0}
+
+-- the same of the parameter where there is one
+abbrev pub IsMemberOrNone : Option Parameter → Type 0
+IsMemberOrNone None = Unit {0}
+IsMemberOrNone (Some parameter) = IsMember parameter
+
+-- each row of the table is one of a member
+abbrev pub AreMembers : List Member → Type 0
+AreMembers [] = Unit {0}
+AreMembers (m ∷ ms) = IsMember m.parameter × IsMemberOrNone m.apart × AreMembers ms
+
+-- `maxResults` is no more than a page may have
+abbrev pub IsPage : Data → Type 0
+IsPage body = option_map_or number_in (value_of MaxResults body) 100 ≤ 1000

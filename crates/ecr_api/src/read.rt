@@ -1,0 +1,103 @@
+// What a target and a body ask for (Amazon ECR API Reference, "Actions").
+ghost use Rattle.std.specs.Prelude.{◌≡◌, IfErr, IfOk, option_map};
+ghost use Rattle.serde_json.specs.Read.{read};
+ghost use Rattle.serde_json.specs.View.{view};
+ghost use Rattle.ecr_model.specs.Actions.{body_reading, reading, typed_reading};
+ghost use Rattle.ecr_model.specs.Members.{document};
+ghost use Rattle.ecr_api.specs.Readings.{NamesNoPart, Reads};
+
+use crate::actions::{action_of, members_of};
+use crate::calls::asked_by;
+use crate::members::{are_typed, first_bad};
+use crate::{ApiRefusal, Asked};
+use ecr_model::{Action, Mem, Refusal, SiteId};
+use serde_json::Value;
+use std::alloc::Global;
+
+/// What a target and a body ask for, where the request came to `base` of the served sites.
+///
+/// An unknown target is refused first, then a body that isn't JSON or has a member of a wrong type, at any level, then
+/// the first member that is bad. The body is read once; it takes memory for the JSON values, and for the texts of the
+/// call.
+#[tactic(auto, unfolding(ecr_model::specs::Actions::reading))]
+pub fn read_call(
+    alloc: Global,
+    target: &[u8],
+    body: &[u8],
+    base: &SiteId,
+    served: &[SiteId],
+) -> Result<Asked, ApiRefusal>
+    ensures exact { Reads result (reading target.now body.now base.now served.now) }
+
+    // So its refusal can be written.
+    ensures plain { IfErr result NamesNoPart }
+{
+    match action_of(target) {
+        Some(action) => {
+            let document = read_document(alloc, body)?;
+            read_body(alloc, base, served, action, &document)
+        }
+        None => Err(ApiRefusal::Refused(Refusal::UnknownOperation)),
+    }
+}
+
+/// What a body asks of an action.
+fn read_body(
+    alloc: Global,
+    base: &SiteId,
+    served: &[SiteId],
+    action: Action,
+    body: &Option<Value>,
+) -> Result<Asked, ApiRefusal>
+    ensures exact { Reads result (body_reading base.now served.now action (option_map view body.now)) }
+    ensures plain { IfErr result NamesNoPart }
+{
+    match body {
+        Some(value) => read_value(alloc, base, served, action, value),
+        None => Err(ApiRefusal::Refused(Refusal::Serialization)),
+    }
+}
+
+/// What a JSON value asks of an action.
+#[tactic(auto, unfolding(ecr_model::specs::Actions::typed_reading))]
+fn read_value(
+    alloc: Global,
+    base: &SiteId,
+    served: &[SiteId],
+    action: Action,
+    body: &Value,
+) -> Result<Asked, ApiRefusal>
+    ensures exact { Reads result (typed_reading base.now served.now action (view body.now)) }
+    ensures plain { IfErr result NamesNoPart }
+{
+    let members = members_of(action);
+    if !are_typed(members, body) {
+        return Err(ApiRefusal::Refused(Refusal::Serialization));
+    }
+    match first_bad(base, served, members, body) {
+        Some(parameter) => Err(ApiRefusal::Refused(Refusal::InvalidParameter(parameter))),
+        None => Ok(asked_by(alloc, base, served, action, body)?),
+    }
+}
+
+/// The body's JSON reading; a body that isn't UTF-8 has none.
+#[tactic(auto, unfolding(ecr_model::specs::Members::document))]
+fn read_document(alloc: Global, body: &[u8]) -> Result<Option<Value>, Mem>
+    ensures { IfOk result (λ o. option_map view o ≡ document body.now) }
+{
+    match str::from_utf8(body) {
+        Ok(text) => read_json(alloc, text),
+        Err(_) => Ok(None),
+    }
+}
+
+/// The JSON reading of the text, where it has one.
+fn read_json(alloc: Global, text: &str) -> Result<Option<Value>, Mem>
+    ensures { IfOk result (λ o. option_map view o ≡ read text.now) }
+{
+    match Value::from_str(alloc, text) {
+        Ok(value) => Ok(Some(value)),
+        Err(error) if error.is_memory() => Err(Mem),
+        Err(_) => Ok(None),
+    }
+}

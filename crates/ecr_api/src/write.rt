@@ -1,0 +1,67 @@
+// Replies as bytes (Amazon ECR API Reference; RFC 9112).
+ghost use Rattle.std.specs.Prelude.{◌≡◌, IfOk, None};
+ghost use Rattle.ecr_model.specs.Rendered.{json, refused, status_of, with_head};
+ghost use Rattle.ecr_errors.specs.Parts.{HasItsUpload};
+ghost use Rattle.ecr_http.specs.Replies.{reply_bytes};
+ghost use Rattle.ecr_api.specs.Readings.{meaning};
+ghost use Rattle.ecr_api.specs.Writings.{NamesNoUpload};
+
+use crate::Asked;
+use crate::bodies::write_body;
+use crate::head::write_json_head;
+use ecr_blob_upload::Blob;
+use ecr_errors::refusal_body;
+use ecr_http::HttpReply;
+use ecr_model::{Mem, Refusal, Reply};
+use std::alloc::Global;
+
+/// The reply to what was asked; it says `close` where the session closes after it. None of these replies has content
+/// of `blobs`.
+///
+/// The body is written once, into room that fits short names.
+#[tactic(auto, unfolding(ecr_model::specs::Rendered::json))]
+pub fn write_reply(
+    alloc: Global,
+    asked: &Asked,
+    reply: &Reply,
+    blobs: &[Blob],
+    close: bool,
+) -> Result<HttpReply, Mem>
+    requires { NamesNoUpload reply.now }
+    ensures exact { IfOk result (λ r. reply_bytes r ≡ json (meaning asked.now) reply.now close) }
+{
+    let body = write_body(alloc, asked, reply)?;
+    with_head(alloc, close, status_of(reply), body)
+}
+
+/// The reply to a body that asks for nothing; it says `close` where the session closes after it.
+#[tactic(auto, unfolding(ecr_model::specs::Rendered::refused, ecr_model::specs::Refusals::refusal_body))]
+pub fn write_refused(alloc: Global, refusal: &Refusal, close: bool) -> Result<HttpReply, Mem>
+    requires { HasItsUpload refusal.now None None }
+    ensures exact { IfOk result (λ r. reply_bytes r ≡ refused refusal.now close) }
+{
+    let body = refusal_body(alloc, refusal, None, None)?;
+    with_head(alloc, close, "400 Bad Request", body)
+}
+
+/// A reply of the JSON API with that body, which isn't copied.
+fn with_head(alloc: Global, close: bool, status: &str, body: Vec<u8>) -> Result<HttpReply, Mem>
+    ensures { IfOk result (λ r. reply_bytes r ≡ with_head close status.now body.items) }
+{
+    let head = write_json_head(alloc, close, status, body.len())?;
+    Ok(HttpReply {
+        head,
+        body: Vec::new(alloc),
+        tail: body,
+    })
+}
+
+/// The status of a reply.
+fn status_of(reply: &Reply) -> &'static str
+    ensures { result.now ≡ status_of reply.now }
+{
+    match reply {
+        Reply::Refused(_) => "400 Bad Request",
+        _ => "200 OK",
+    }
+}
