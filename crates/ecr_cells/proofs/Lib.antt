@@ -1,0 +1,5 @@
+pub mod CrossingLemmas
+pub mod RoomLemmas
+pub mod RunLemmas
+pub mod WardLemmas
+pub mod WorldLemmas

@@ -1,0 +1,68 @@
+// A turn in a repository.
+ghost use Rattle.std.specs.Prelude.{◌≡◌, [], IfOk, OnOk, OnErr, length};
+ghost use Rattle.ecr_model.specs.Journals.{past};
+ghost use Rattle.ecr_model.specs.Scripts as asks;
+ghost use Rattle.ecr_model.specs.Scripts.{replied};
+ghost use Rattle.ecr_cells.specs.Wards.{IsRoomTurn, Puts};
+
+use ecr_blob_upload::{Load, Outcome};
+use ecr_model::{Call, CellKey, Mem, Moment, Name, Place, RepoKey};
+use ecr_repo::{RepoState, a_journal_is_sound};
+use std::alloc::Global;
+use std::collections::BTreeMap;
+
+/// A copy of the key.
+pub(crate) fn copy_of(key: &RepoKey) -> Result<RepoKey, Mem>
+    ensures { IfOk result (λ copy. copy ≡ key.now) }
+{
+    key.clone()
+}
+
+/// A copy of the name.
+pub(crate) fn copy_of_name(name: &Name) -> Result<Name, Mem>
+    ensures { IfOk result (λ copy. copy ≡ name.now) }
+{
+    name.clone()
+}
+
+/// Makes room for a name.
+pub(crate) fn put(
+    rooms: &mut BTreeMap<Name, RepoState>,
+    name: Name,
+    room: RepoState,
+) -> Result<(), Mem>
+    ensures put { OnOk result (Puts rooms.old.entries rooms.new.entries name room) }
+    ensures err { OnErr result (rooms.new.entries ≡ rooms.old.entries) }
+{
+    rooms.insert(name, room)?;
+    Ok(())
+}
+
+/// Makes a call on the repository. Its ticket is the number of the repository's entries.
+pub(crate) fn change(
+    room: &mut RepoState,
+    alloc: Global,
+    key: RepoKey,
+    call: &Call,
+    load: Load,
+    moment: Moment,
+) -> Result<(Outcome, Place), Mem>
+    requires key { room.old.key ≡ key }
+    requires numbered { past room.old.journal ≡ length room.old.journal }
+    ensures turned { IfOk result (λ t. IsRoomTurn room.old room.new (asks.call moment call.now) (replied t.0.reply) t.1) }
+    ensures blobs { IfOk result (λ t. t.0.blobs.items ≡ []) }
+    ensures stays { (room.new.key ≡ room.old.key) × (room.new.limits ≡ room.old.limits) }
+    ensures numbered { past room.new.journal ≡ length room.new.journal }
+    ensures err { OnErr result (room.new ≡ room.old) }
+{
+    a_journal_is_sound(room);
+    let ticket = room.entries();
+    let nowhere = Vec::new(alloc);
+    let outcome = room.change(alloc, ticket, 0, call, load, nowhere, moment)?;
+    let place = Place {
+        cell: CellKey::Repository(key),
+        ticket,
+        changed: outcome.changed,
+    };
+    Ok((outcome, place))
+}
