@@ -1,15 +1,15 @@
 // A command for one caller.
 ghost use Rattle.std.specs.Prelude.{◌≡◌, ◌<◌, ℕ, List, Option, length, map, string_bytes};
-ghost use Rattle.ecr_model.specs.Commands.{IsNoCommand, IsSession, SaysUsage, status_of, usage_lines};
-ghost use Rattle.ecr_model.specs.Sessions.{Serves};
+ghost use Rattle.ecr_model.specs.Commands.{IsNoCommand, IsSession, RunsSession, SaysUsage, status_of, usage_lines};
 ghost use Rattle.ecr_model.specs.declared.names.SiteId.{SiteId};
 ghost use Rattle.ecr_http.specs.Sends.{Sends};
 
-use crate::session::Session;
 use crate::words::{SessionWords, read_words};
+use ecr_cells::SoloDesk;
 use ecr_http::{Sent, send};
-use ecr_model::{Cut, End};
+use ecr_model::{Cut, End, Limits};
 use ecr_outside::{Clock, Sink, Source};
+use ecr_session::{Mode, session_still};
 use std::alloc::Global;
 
 /// How a command ended.
@@ -27,7 +27,7 @@ pub struct Ended {
 /// 1 to 64 different sites, as `us-east-1/111122223333`.
 ///
 /// A session reads requests from the source and writes the replies to the sink, each as soon as its request was
-/// answered. Where a moment is given it is that of each answer, and the clock isn't asked; else the clock is asked once for
+/// answered. It begins with a registry in which nothing is, and which goes when it ends. Where a moment is given it is that of each answer, and the clock isn't asked; else the clock is asked once for
 /// each request. Other words are answered by the lines of usage.
 pub fn solo<S: Source, K: Sink, C: Clock>(
     alloc: Global,
@@ -46,7 +46,7 @@ pub fn solo<S: Source, K: Sink, C: Clock>(
         result.end }
 
     // What a session reads, answers and writes, and how it ends.
-    ensures session { (fixed : Option ℕ) (sites : List SiteId) → IsSession (map string_bytes words.now) fixed sites → Serves sites fixed
+    ensures session { (fixed : Option ℕ) (sites : List SiteId) → IsSession (map string_bytes words.now) fixed sites → RunsSession sites fixed
         (record { left = S.left source.old; held = K.held sink.old; told = C.told clock.old; read_faults = S.faults source.old; write_faults = K.faults sink.old })
         (record { left = S.left source.new; held = K.held sink.new; told = C.told clock.new; read_faults = S.faults source.new; write_faults = K.faults sink.new })
         result.cuts.items result.end }
@@ -54,44 +54,37 @@ pub fn solo<S: Source, K: Sink, C: Clock>(
     match read_words(alloc, words) {
         Err(_) => with_status(End::Mem, Vec::new(alloc)),
         Ok(None) => with_status(say_usage(sink), Vec::new(alloc)),
-        Ok(Some(command)) => serve(alloc, &command, source, sink, clock),
+        Ok(Some(command)) => serve(alloc, command, source, sink, clock),
     }
 }
 
-// Serves one session.
+// Serves one session over a registry in which nothing is.
 fn serve<S: Source, K: Sink, C: Clock>(
     alloc: Global,
-    command: &SessionWords,
+    command: SessionWords,
     source: &mut S,
     sink: &mut K,
     clock: &mut C,
 ) -> Ended
-    requires { 0 < length command.now.sites }
+    requires { 0 < length command.sites }
     ensures status { result.status ≡ status_of result.end }
-    ensures serves { Serves command.now.sites command.now.fixed
+    ensures runs { RunsSession command.sites command.fixed
         (record { left = S.left source.old; held = K.held sink.old; told = C.told clock.old; read_faults = S.faults source.old; write_faults = K.faults sink.old })
         (record { left = S.left source.new; held = K.held sink.new; told = C.told clock.new; read_faults = S.faults source.new; write_faults = K.faults sink.new })
         result.cuts.items result.end }
 {
-    match Session::new(alloc) {
+    let SessionWords { fixed, sites } = command;
+    match SoloDesk::new(alloc, sites.into_vec(), Limits::standard()) {
         Err(_) => with_status(End::Mem, Vec::new(alloc)),
-        Ok(mut session) => {
-            let sites = command.sites.as_slice();
-            let end = session.run(alloc, sites, command.fixed, source, sink, clock);
-            with_status(end, cuts_of(session))
+        Ok(mut desk) => {
+            let mode = Mode {
+                control: false,
+                fixed,
+            };
+            let ended = session_still(alloc, &mut desk, mode, source, sink, clock);
+            with_status(ended.end, ended.cuts)
         }
     }
-}
-
-fn cuts_of(session: Session) -> Vec<Cut>
-    ensures { result.items ≡ session.cuts.items }
-{
-    let Session {
-        reader: _reader,
-        repositories: _repositories,
-        cuts,
-    } = session;
-    cuts
 }
 
 // Writes the lines of usage, and says how the command ends.

@@ -4,12 +4,7 @@
 //! replies. What is asked, answered and written is `ecr_model`'s to define.
 #![tactic(auto)]
 
-mod answer;
-mod call;
 mod command;
-mod host;
-mod reply;
-mod session;
 mod words;
 
 pub use command::{Ended, solo};

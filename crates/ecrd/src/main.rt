@@ -39,4 +39,8 @@ fn run(rt: &HostRuntime, words: &[String]) -> ExitCode {
 }
 
 #[cfg(test)]
-mod tests;
+mod action_tests;
+#[cfg(test)]
+mod http_tests;
+#[cfg(test)]
+mod trial;

@@ -1,12 +1,11 @@
 use Rattle.std.proofs.Common.{◌∙◌}
 use Rattle.ecr_model.specs.Sessions.{Outside}
-use Rattle.ecr_serve.proofs.CommandLemmas.{SaysUsage-same_end, Serves-same_words}
-use Rattle.ecr_serve.proofs.ServingLemmas.{Serves-nothing}
+use Rattle.ecr_serve.proofs.CommandLemmas.{RunsSession-nothing, RunsSession-same_words, SaysUsage-same_end}
 use Rattle.ecr_serve.proofs.command.solo.Goals as goal
 
 pub returns-in-Err-clause-session : goal.returns-in-Err-clause-session
 returns-in-Err-clause-session g c = λ fixed sites words.
-    Serves-nothing sites fixed _ _ _ (c.with_status.ensures.cuts ∙ c.new.ensures.items) c.with_status.ensures.end
+    RunsSession-nothing sites fixed _ _ _ (c.with_status.ensures.cuts ∙ c.new.ensures.items) c.with_status.ensures.end
 
 pub returns-in-Ok-None-clause-usage : goal.returns-in-Ok-None-clause-usage
 returns-in-Ok-None-clause-usage g c = λ other.
@@ -19,5 +18,5 @@ returns-in-Ok-None-clause-usage g c = λ other.
 
 pub returns-in-Ok-Some-clause-session : goal.returns-in-Ok-Some-clause-session
 returns-in-Ok-Some-clause-session g c = λ fixed sites words.
-    Serves-same_words _ c.in-Ok-Some.command.fixed fixed c.in-Ok-Some.command.sites sites _ _ _ _
-    (rw c.in-Ok-Some.field-0-is at c.in-Ok-Some.ensures) words c.serve.ensures.serves
+    RunsSession-same_words _ c.in-Ok-Some.command.fixed fixed c.in-Ok-Some.command.sites sites _ _ _ _
+    (rw c.in-Ok-Some.field-0-is at c.in-Ok-Some.ensures) words c.serve.ensures.runs

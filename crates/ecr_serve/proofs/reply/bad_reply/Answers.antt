@@ -1,7 +1,0 @@
-use Rattle.std.proofs.Common.{refl}
-use Rattle.ecr_model.specs.Replies.{bad_reply, empty_reply, connection_line}
-use Rattle.ecr_serve.proofs.reply.bad_reply.Goals as goal
-
-pub returns : goal.returns
-unfolding bad_reply empty_reply connection_line
-returns c = refl

@@ -1,0 +1,123 @@
+-- What a request may ask of a desk.
+use Rattle.std.proofs.Common.{◌≡◌, ◌<◌, ◌^◌, ◌&&◌, ℕ, zero, suc, Bool, true, false, cond, List, [], ◌∷◌, length, Option, None, Some, refl, subst, arith}
+use Rattle.std.specs.Prelude.{Contains, find, unwrap_or, option_and_then, nat_lt}
+use Rattle.std.specs.Option.{option_or}
+use Rattle.std.proofs.lemmas.Bool.Decides.{nat_tests}
+use Rattle.serde_json.specs.Data.{Data}
+use Rattle.ecr_model.specs.declared.action.Action.{Action}
+use Rattle.ecr_model.specs.declared.action.Action.TheVariants.{CreateRepository, DeleteRepository, DescribeRepositories, PutImageTagMutability}
+use Rattle.ecr_model.specs.declared.names.SiteId.{SiteId}
+use Rattle.ecr_model.specs.declared.refusal.Parameter.{Parameter}
+use Rattle.ecr_model.specs.declared.refusal.Parameter.TheVariants.{RegistryId, NextToken}
+use Rattle.ecr_model.specs.declared.refusal.Refusal.TheVariants.{Serialization}
+use Rattle.ecr_model.specs.Actions.{Asked, Reading, asks, refuses, asked_by, unless_bad, typed_reading, body_reading, action_reading, reading, site_in, text_at, members_of, action_of}
+use Rattle.ecr_model.specs.Hosts.{first_site, first_with, named_site, registry_host, api_host, site_for, without_port}
+use Rattle.ecr_model.specs.Members.{are_typed, digits_value, document, first_bad, is_decimal, place_of, site_of, text_in, value_of}
+use Rattle.ecr_session.specs.Turns.{IsAskable}
+
+-- ---- the site is served
+
+-- an item of a list is one of a longer list
+Contains-behind : {X : Type 0} (y x : X) (xs : List X) → Contains xs x → Contains (y ∷ xs) x
+Contains-behind y x xs c = (suc c.0, omega (arith, c.1), c.2)
+
+-- what is found in a list is one of its items
+Contains-find : {X : Type 0} (test : X → Bool) (xs : List X) (x : X) → find test xs ≡ Some x → Contains xs x
+Contains-find test [] x found = absurd (let no : None ≡ Some x = found in cc)
+Contains-find test (y ∷ ys) x found = by (test y) found (λ e. Contains-find test ys x e) where
+  by : (b : Bool) → cond b (Some y) (find test ys) ≡ Some x → (find test ys ≡ Some x → Contains ys x) → Contains (y ∷ ys) x
+  by true e rest = subst (λ z. Contains (y ∷ ys) z) (let same : y ≡ x = cc in same) (zero, omega arith, refl)
+  by false e rest = Contains-behind y x ys (rest e)
+
+-- one of the served sites, or else one that is served
+Contains-or : (served : List SiteId) (base : SiteId) (o : Option SiteId) → ((s : SiteId) → o ≡ Some s → Contains served s) → Contains served base → Contains served (unwrap_or o base)
+Contains-or served base None named at = at
+Contains-or served base (Some s) named at = named s refl
+
+Contains-either : (served : List SiteId) (o p : Option SiteId) → ((s : SiteId) → o ≡ Some s → Contains served s) → ((s : SiteId) → p ≡ Some s → Contains served s)
+    → (s : SiteId) → option_or o p ≡ Some s → Contains served s
+Contains-either served None p one other s e = other s e
+Contains-either served (Some t) p one other s e = one s e
+
+Contains-then : {X : Type 0} (served : List SiteId) (o : Option X) (f : X → Option SiteId) → ((x : X) (s : SiteId) → f x ≡ Some s → Contains served s)
+    → (s : SiteId) → option_and_then f o ≡ Some s → Contains served s
+Contains-then served None f each s e = absurd (let no : None ≡ Some s = e in cc)
+Contains-then served (Some x) f each s e = each x s e
+
+-- the site that a host names
+named_site-served : (served : List SiteId) (host : List ℕ) (s : SiteId) → named_site served host ≡ Some s → Contains served s
+unfolding named_site
+named_site-served served host s e =
+    Contains-either served (first_with registry_host host served) (first_with api_host host served)
+    (λ t f. Contains-find _ served t f) (λ t f. Contains-find _ served t f) s e
+
+first_site-served : (served : List SiteId) → 0 < length served → Contains served (first_site served)
+first_site-served [] some = absurd (omega arith)
+first_site-served (s ∷ served) some = (zero, omega arith, refl)
+
+pub site_for-served : (served : List SiteId) (host : Option (List ℕ)) → 0 < length served → Contains served (site_for served host)
+unfolding site_for
+site_for-served served host some =
+    Contains-or served (first_site served) (option_and_then (λ value. named_site served (without_port value)) host)
+    (Contains-then served host (λ value. named_site served (without_port value)) (λ value s e. named_site-served served (without_port value) s e))
+    (first_site-served served some)
+
+-- the site that a body names
+site_of-served : (base : SiteId) (served : List SiteId) (account : List ℕ) (s : SiteId) → site_of base served account ≡ Some s → Contains served s
+unfolding site_of
+site_of-served base served account s e = Contains-find _ served s e
+
+site_in-served : (base : SiteId) (served : List SiteId) (body : Data) → Contains served base → Contains served (site_in base served body)
+site_in-served base served body at =
+    Contains-or served base (option_and_then (λ value. site_of base served (text_in value)) (value_of RegistryId body))
+    (Contains-then served (value_of RegistryId body) (λ value. site_of base served (text_in value)) (λ value s e. site_of-served base served (text_in value) s e))
+    at
+
+-- ---- the first place of a page
+
+place_of-below : (text : List ℕ) → unwrap_or (place_of text) 0 < 2 ^ 63
+unfolding place_of
+place_of-below text = by (is_decimal text) (digits_value text) where
+  by : (b : Bool) (value : ℕ) → unwrap_or (cond (b && nat_lt value (2 ^ 63)) (Some value) None) 0 < 2 ^ 63
+  by true value = grind (arith, nat_tests)
+  by false value = omega arith
+
+-- ---- what is asked
+
+asked_by-askable : (base : SiteId) (served : List SiteId) (action : Action) (body : Data) → Contains served base → IsAskable served (asked_by base served action body)
+unfolding asked_by
+asked_by-askable base served CreateRepository body at = record { at = site_in-served base served body at; page = tt }
+asked_by-askable base served DeleteRepository body at = record { at = site_in-served base served body at; page = tt }
+asked_by-askable base served DescribeRepositories body at = record { at = site_in-served base served body at; page = place_of-below (text_at NextToken body) }
+asked_by-askable base served PutImageTagMutability body at = record { at = site_in-served base served body at; page = tt }
+
+-- what is asked may be asked of a desk
+abbrev IsFit : List SiteId → Reading → Type 0
+IsFit served (asks asked) = IsAskable served asked
+IsFit served (refuses refusal) = Unit {0}
+
+unless_bad-fit : (served : List SiteId) (bad : Option Parameter) (asked : Asked) → IsAskable served asked → IsFit served (unless_bad bad asked)
+unless_bad-fit served None asked at = at
+unless_bad-fit served (Some parameter) asked at = tt
+
+typed-fit : (base : SiteId) (served : List SiteId) (action : Action) (body : Data) → Contains served base → IsFit served (typed_reading base served action body)
+unfolding typed_reading
+typed-fit base served action body at = by (are_typed (members_of action) body) where
+  by : (b : Bool) → IsFit served (cond b (unless_bad (first_bad base served (members_of action) body) (asked_by base served action body)) (refuses Serialization))
+  by true = unless_bad-fit served (first_bad base served (members_of action) body) (asked_by base served action body) (asked_by-askable base served action body at)
+  by false = tt
+
+body-fit : (base : SiteId) (served : List SiteId) (action : Action) (body : Option Data) → Contains served base → IsFit served (body_reading base served action body)
+body-fit base served action None at = tt
+body-fit base served action (Some body) at = typed-fit base served action body at
+
+action-fit : (base : SiteId) (served : List SiteId) (action : Option Action) (body : List ℕ) → Contains served base → IsFit served (action_reading base served action body)
+action-fit base served None body at = tt
+action-fit base served (Some action) body at = body-fit base served action (document body) at
+
+reading-fit : (target body : List ℕ) (base : SiteId) (served : List SiteId) → Contains served base → IsFit served (reading target body base served)
+unfolding reading
+reading-fit target body base served at = action-fit base served (action_of target) body at
+
+pub reading-askable : (target body : List ℕ) (base : SiteId) (served : List SiteId) (asked : Asked) → Contains served base → reading target body base served ≡ asks asked → IsAskable served asked
+reading-askable target body base served asked at is = subst (IsFit served) is (reading-fit target body base served at)

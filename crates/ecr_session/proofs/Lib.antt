@@ -1,0 +1,7 @@
+pub mod AnswerLemmas
+pub mod AskLemmas
+pub mod FixedLemmas
+pub mod HostLemmas
+pub mod PlainLemmas
+pub mod ServingLemmas
+pub mod TurnLemmas

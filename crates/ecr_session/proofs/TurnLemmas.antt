@@ -1,0 +1,286 @@
+-- One script with its places, and then another.
+use Rattle.std.proofs.Common.{◌≡◌, ◌≤◌, ◌<◌, ◌+◌, ℕ, cond, List, [], ◌∷◌, ◌++◌, length, drop, get_or, Option, None, Some, Result, Ok, Err, refl, sym, ap, ◌∙◌, subst, append-nil, append_assoc, arith}
+use Rattle.std.proofs.lemmas.List.{drop_more}
+use Rattle.std.proofs.Math.ListN.{drop_of_length-le}
+use Rattle.std.specs.Prelude.{Contains, OnErr}
+use Rattle.ecr_model.specs.declared.call.Call.{Call}
+use Rattle.ecr_model.specs.declared.journal.Place.{Place}
+use Rattle.ecr_model.specs.declared.names.Name.{Name}
+use Rattle.ecr_model.specs.declared.names.RepoKey.{RepoKey}
+use Rattle.ecr_model.specs.declared.names.SiteId.{SiteId}
+use Rattle.ecr_model.specs.declared.call.Call.TheVariants.{Describe}
+use Rattle.ecr_model.specs.declared.refusal.Refusal.{Refusal}
+use Rattle.ecr_model.specs.declared.reply.Described.{Described as Row}
+use Rattle.ecr_model.specs.declared.reply.Reply.{Reply}
+use Rattle.ecr_model.specs.declared.reply.Reply.TheVariants.{Created, Deleted, Described, MutabilitySet, Refused}
+use Rattle.ecr_model.specs.Requests.{call_script, key_at, rows_in, is_refused, named_script, listed_script}
+use Rattle.ecr_model.specs.ScriptLaws.{RunsThen}
+use Rattle.ecr_model.specs.Scripts.{Realm, Script, ends, then_do, run}
+use Rattle.ecr_model.proofs.ScriptLemmas.{run-then_do, run_to-none}
+use Rattle.ecr_desk.specs.Desks.{Seen, Ran, Stopped, run_on, entries_of, first_entries}
+use Rattle.ecr_desk.proofs.DeskLemmas.{Ran-ends, Ran-then, Stopped-first, Stopped-then, Stopped-whole, first_entries-le}
+use Rattle.ecr_session.specs.Turns.{RanWith, StoppedWith, LeadsTo, IsDescribed, refusal_in}
+
+-- ---- one script
+
+-- a script without a turn
+pub RanWith-ends : {A : Type 0} (seen : Seen) (answer : A) (old : List Place) → RanWith seen seen (ends answer) answer old old
+RanWith-ends seen answer old = record { places = []; added = sym (append-nil old); ran = Ran-ends seen answer }
+
+-- the places of a run stand behind the others
+pub RanWith-ran : {A : Type 0} (before after : Seen) (script : Script A) (answer : A) (places old now : List Place) → now ≡ old ++ places
+    → Ran before after script answer places → RanWith before after script answer old now
+RanWith-ran before after script answer places old now added ran = record { places = places; added = added; ran = ran }
+
+-- no turn was made
+pub StoppedWith-nothing : {A : Type 0} (seen : Seen) (script : Script A) (old now : List Place) → now ≡ old → StoppedWith seen seen script old now
+StoppedWith-nothing seen script old now same = record {
+  places = [];
+  rest = (run_on seen script).places;
+  added = same ∙ sym (append-nil old);
+  parts = refl;
+  stopped = record {
+    entries = 0;
+    within = omega arith;
+    realm_stays = refl;
+    left = sym (run_to-none seen.realm seen.world script);
+    counted = omega arith;
+  };
+}
+
+-- turns were made of which no place is told
+pub StoppedWith-untold : {A : Type 0} (before after : Seen) (script : Script A) (old now : List Place) → now ≡ old → Stopped before after script (entries_of before script)
+    → StoppedWith before after script old now
+StoppedWith-untold before after script old now same stopped = record {
+  places = [];
+  rest = (run_on before script).places;
+  added = same ∙ sym (append-nil old);
+  parts = refl;
+  stopped = stopped;
+}
+
+-- of a call on a repository at most the first turn was made
+pub StoppedWith-call : (before after : Seen) (key : RepoKey) (call : Call) (moment : ℕ) (old now : List Place) → now ≡ old
+    → Stopped before after (call_script key call moment) (first_entries before key call) → StoppedWith before after (call_script key call moment) old now
+StoppedWith-call before after key call moment old now same stopped =
+    let most = first_entries-le before key call moment in
+    StoppedWith-untold before after (call_script key call moment) old now same (record {
+      entries = stopped.entries;
+      within = omega (arith, stopped.within, most);
+      realm_stays = stopped.realm_stays;
+      left = stopped.left;
+      counted = stopped.counted;
+    })
+
+-- all turns were made, and the answer wasn't told
+pub StoppedWith-whole : {A : Type 0} (before after : Seen) (script : Script A) (answer : A) (old now : List Place) → RanWith before after script answer old now
+    → StoppedWith before after script old now
+StoppedWith-whole before after script answer old now w = record {
+  places = w.places;
+  rest = [];
+  added = w.added;
+  parts = sym w.ran.placed ∙ sym (append-nil w.places);
+  stopped = Stopped-whole before after script answer w.places w.ran;
+}
+
+-- all turns were made, and neither the answer nor a place was told
+pub StoppedWith-unheard : {A : Type 0} (before after : Seen) (script : Script A) (answer : A) (places old now : List Place) → now ≡ old → Ran before after script answer places
+    → StoppedWith before after script old now
+StoppedWith-unheard before after script answer places old now same ran =
+    StoppedWith-untold before after script old now same (Stopped-whole before after script answer places ran)
+
+-- ---- and then another
+
+-- the places of both
+places_of-then : {A B : Type 0} (before mid : Seen) (script : Script A) (next : A → Script B) (answer : A) (places : List Place) → Ran before mid script answer places
+    → (run_on before (then_do script next)).places ≡ places ++ (run_on mid (next answer)).places
+places_of-then before mid script next answer places ran =
+    let both : RunsThen before.realm before.world script next = run-then_do before.realm before.world script next in
+    both.places_are
+    ∙ ap (λ ps. ps ++ (run before.realm (run_on before script).world (next (run_on before script).answer)).places) (sym ran.placed)
+    ∙ ap (λ w. places ++ (run before.realm w (next (run_on before script).answer)).places) (sym ran.left)
+    ∙ ap (λ g. places ++ (run g mid.world (next (run_on before script).answer)).places) (sym ran.realm_stays)
+    ∙ ap (λ a. places ++ (run_on mid (next a)).places) (sym ran.answered)
+
+pub RanWith-then : {A B : Type 0} (before mid after : Seen) (script : Script A) (next : A → Script B) (a : A) (b : B) (old more now : List Place)
+    → RanWith before mid script a old more → RanWith mid after (next a) b more now → RanWith before after (then_do script next) b old now
+RanWith-then before mid after script next a b old more now one other = record {
+  places = one.places ++ other.places;
+  added = other.added ∙ ap (λ l. l ++ other.places) one.added ∙ append_assoc old one.places other.places;
+  ran = Ran-then before mid after script next a b one.places other.places one.ran other.ran;
+}
+
+pub StoppedWith-first : {A B : Type 0} (before after : Seen) (script : Script A) (next : A → Script B) (old now : List Place)
+    → StoppedWith before after script old now → StoppedWith before after (then_do script next) old now
+StoppedWith-first before after script next old now s =
+    let both : RunsThen before.realm before.world script next = run-then_do before.realm before.world script next in
+    let further = (run before.realm (run_on before script).world (next (run_on before script).answer)).places in
+    record {
+      places = s.places;
+      rest = s.rest ++ further;
+      added = s.added;
+      parts = both.places_are ∙ ap (λ ps. ps ++ further) s.parts ∙ append_assoc s.places s.rest further;
+      stopped = Stopped-first before after script next (entries_of before script) (omega arith) s.stopped;
+    }
+
+pub StoppedWith-then : {A B : Type 0} (before mid after : Seen) (script : Script A) (next : A → Script B) (a : A) (old more now : List Place)
+    → RanWith before mid script a old more → StoppedWith mid after (next a) more now → StoppedWith before after (then_do script next) old now
+StoppedWith-then before mid after script next a old more now one other = record {
+  places = one.places ++ other.places;
+  rest = other.rest;
+  added = other.added ∙ ap (λ l. l ++ other.places) one.added ∙ append_assoc old one.places other.places;
+  parts = places_of-then before mid script next a one.places one.ran ∙ ap (λ ps. one.places ++ ps) other.parts
+      ∙ sym (append_assoc one.places other.places other.rest);
+  stopped = Stopped-then before mid after script next a one.places (entries_of mid (next a)) one.ran (omega arith) other.stopped;
+}
+
+-- ---- a whole script, turn by turn
+
+pub LeadsTo-start : {A : Type 0} (seen : Seen) (script : Script A) (places : List Place) → LeadsTo seen seen script script places places
+LeadsTo-start seen script places = record { ran = λ later answer last w. w; stopped = λ later last s. s }
+
+pub LeadsTo-then : {A B : Type 0} (before now next_seen : Seen) (whole : Script B) (script : Script A) (next : A → Script B) (a : A) (old places more : List Place)
+    → LeadsTo before now whole (then_do script next) old places → RanWith now next_seen script a places more → LeadsTo before next_seen whole (next a) old more
+LeadsTo-then before now next_seen whole script next a old places more to one = record {
+  ran = λ later answer last w. to.ran later answer last (RanWith-then now next_seen later script next a answer places more last one w);
+  stopped = λ later last s. to.stopped later last (StoppedWith-then now next_seen later script next a places more last one s);
+}
+
+-- ---- the named repositories
+
+-- what is left of them, with the next one in front
+named_at : (s : SiteId) (moment : ℕ) (rows : List Row) (names : List Name) (i : ℕ) (name : Name) → i < length names → name ≡ get_or names i name
+    → named_script s moment rows (drop i names) ≡ named_script s moment rows (name ∷ drop (i + 1) names)
+named_at s moment rows names i name inside is =
+    ap (named_script s moment rows) (drop_more names i name inside ∙ ap (λ n. n ∷ drop (i + 1) names) (sym is))
+
+named_step : SiteId → ℕ → List Row → List Name → Reply → Script Reply
+named_step s moment rows names reply = cond (is_refused reply) (ends reply) (named_script s moment (rows ++ rows_in reply) names)
+
+LeadsTo-named : (before now after : Seen) (whole : Script Reply) (s : SiteId) (moment : ℕ) (rows rows_after : List Row) (names : List Name) (i : ℕ) (name : Name) (refusal : Option Refusal) (old places more : List Place)
+    → i < length names → name ≡ get_or names i name → LeadsTo before now whole (named_script s moment rows (drop i names)) old places
+    → (d : IsDescribed now after s name moment rows rows_after refusal places more) → LeadsTo before after whole (named_step s moment rows (drop (i + 1) names) d.reply) old more
+unfolding named_script named_step
+LeadsTo-named before now after whole s moment rows rows_after names i name refusal old places more inside is to d =
+    LeadsTo-then before now after whole (call_script (key_at s name) Describe moment) (named_step s moment rows (drop (i + 1) names)) d.reply old places more
+    (subst (λ rest. LeadsTo before now whole rest old places) (named_at s moment rows names i name inside is) to) d.ran
+
+-- a description that isn't refused
+named_step-on : (s : SiteId) (moment : ℕ) (rows : List Row) (names : List Name) (reply : Reply) → None ≡ refusal_in reply
+    → named_step s moment rows names reply ≡ named_script s moment (rows ++ rows_in reply) names
+unfolding named_step
+named_step-on s moment rows names (Refused refusal) none = absurd (let no : None ≡ Some refusal = none in cc)
+named_step-on s moment rows names (Created created mutability) none = refl
+named_step-on s moment rows names (Deleted created mutability) none = refl
+named_step-on s moment rows names (Described others next) none = refl
+named_step-on s moment rows names (MutabilitySet mutability) none = refl
+
+-- one that is
+named_step-refused : (s : SiteId) (moment : ℕ) (rows : List Row) (names : List Name) (reply : Reply) (refusal : Refusal) → Some refusal ≡ refusal_in reply
+    → named_step s moment rows names reply ≡ ends (Refused refusal)
+unfolding named_step
+named_step-refused s moment rows names (Refused other) refusal some = ap (λ (r : Refusal). ends (Refused r)) (let same : Some refusal ≡ Some other = some in cc)
+named_step-refused s moment rows names (Created created mutability) refusal some = absurd (let no : Some refusal ≡ None = some in cc)
+named_step-refused s moment rows names (Deleted created mutability) refusal some = absurd (let no : Some refusal ≡ None = some in cc)
+named_step-refused s moment rows names (Described others next) refusal some = absurd (let no : Some refusal ≡ None = some in cc)
+named_step-refused s moment rows names (MutabilitySet mutability) refusal some = absurd (let no : Some refusal ≡ None = some in cc)
+
+pub LeadsTo-named_on : (before now after : Seen) (whole : Script Reply) (s : SiteId) (moment : ℕ) (rows rows_after : List Row) (names : List Name) (i : ℕ) (name : Name) (old places more : List Place)
+    → i < length names → name ≡ get_or names i name → LeadsTo before now whole (named_script s moment rows (drop i names)) old places
+    → IsDescribed now after s name moment rows rows_after None places more → LeadsTo before after whole (named_script s moment rows_after (drop (i + 1) names)) old more
+LeadsTo-named_on before now after whole s moment rows rows_after names i name old places more inside is to d =
+    subst (λ r. LeadsTo before after whole (named_script s moment r (drop (i + 1) names)) old more) (sym d.rows)
+    (subst (λ rest. LeadsTo before after whole rest old more) (named_step-on s moment rows (drop (i + 1) names) d.reply d.refused)
+    (LeadsTo-named before now after whole s moment rows rows_after names i name None old places more inside is to d))
+
+pub RanWith-named_refused : (before now after : Seen) (whole : Script Reply) (s : SiteId) (moment : ℕ) (rows rows_after : List Row) (names : List Name) (i : ℕ) (name : Name) (refusal : Refusal) (old places more : List Place)
+    → i < length names → name ≡ get_or names i name → LeadsTo before now whole (named_script s moment rows (drop i names)) old places
+    → IsDescribed now after s name moment rows rows_after (Some refusal) places more → RanWith before after whole (Refused refusal) old more
+RanWith-named_refused before now after whole s moment rows rows_after names i name refusal old places more inside is to d =
+    (subst (λ rest. LeadsTo before after whole rest old more) (named_step-refused s moment rows (drop (i + 1) names) d.reply refusal d.refused)
+    (LeadsTo-named before now after whole s moment rows rows_after names i name (Some refusal) old places more inside is to d)).ran after (Refused refusal) more
+    (RanWith-ends after (Refused refusal) more)
+
+pub StoppedWith-named : (before now after : Seen) (whole : Script Reply) (s : SiteId) (moment : ℕ) (rows : List Row) (names : List Name) (i : ℕ) (name : Name) (old places more : List Place)
+    → i < length names → name ≡ get_or names i name → LeadsTo before now whole (named_script s moment rows (drop i names)) old places
+    → StoppedWith now after (call_script (key_at s name) Describe moment) places more → StoppedWith before after whole old more
+unfolding named_script named_step
+StoppedWith-named before now after whole s moment rows names i name old places more inside is to stopped =
+    to.stopped after more
+    (subst (λ rest. StoppedWith now after rest places more) (sym (named_at s moment rows names i name inside is))
+    (StoppedWith-first now after (call_script (key_at s name) Describe moment) (named_step s moment rows (drop (i + 1) names)) places more stopped))
+
+pub RanWith-named_end : (before now : Seen) (whole : Script Reply) (s : SiteId) (moment : ℕ) (rows : List Row) (names : List Name) (i : ℕ) (old places : List Place)
+    → length names ≤ i → LeadsTo before now whole (named_script s moment rows (drop i names)) old places → RanWith before now whole (Described rows None) old places
+unfolding named_script
+RanWith-named_end before now whole s moment rows names i old places all to =
+    (subst (λ l. LeadsTo before now whole (named_script s moment rows l) old places) (drop_of_length-le names all) to).ran now (Described rows None) places
+    (RanWith-ends now (Described rows None) places)
+
+-- ---- the listed repositories
+
+listed_at : (s : SiteId) (moment : ℕ) (next : Option ℕ) (rows : List Row) (names : List Name) (i : ℕ) (name : Name) → i < length names → name ≡ get_or names i name
+    → listed_script s moment next rows (drop i names) ≡ listed_script s moment next rows (name ∷ drop (i + 1) names)
+listed_at s moment next rows names i name inside is =
+    ap (listed_script s moment next rows) (drop_more names i name inside ∙ ap (λ n. n ∷ drop (i + 1) names) (sym is))
+
+pub LeadsTo-listed : (before now after : Seen) (whole : Script Reply) (s : SiteId) (moment : ℕ) (next : Option ℕ) (rows rows_after : List Row) (names : List Name) (i : ℕ) (name : Name) (refusal : Option Refusal) (old places more : List Place)
+    → i < length names → name ≡ get_or names i name → LeadsTo before now whole (listed_script s moment next rows (drop i names)) old places
+    → IsDescribed now after s name moment rows rows_after refusal places more → LeadsTo before after whole (listed_script s moment next rows_after (drop (i + 1) names)) old more
+unfolding listed_script
+LeadsTo-listed before now after whole s moment next rows rows_after names i name refusal old places more inside is to d =
+    subst (λ r. LeadsTo before after whole (listed_script s moment next r (drop (i + 1) names)) old more) (sym d.rows)
+    (LeadsTo-then before now after whole (call_script (key_at s name) Describe moment) (λ reply. listed_script s moment next (rows ++ rows_in reply) (drop (i + 1) names)) d.reply old places more
+    (subst (λ rest. LeadsTo before now whole rest old places) (listed_at s moment next rows names i name inside is) to) d.ran)
+
+pub StoppedWith-listed : (before now after : Seen) (whole : Script Reply) (s : SiteId) (moment : ℕ) (next : Option ℕ) (rows : List Row) (names : List Name) (i : ℕ) (name : Name) (old places more : List Place)
+    → i < length names → name ≡ get_or names i name → LeadsTo before now whole (listed_script s moment next rows (drop i names)) old places
+    → StoppedWith now after (call_script (key_at s name) Describe moment) places more → StoppedWith before after whole old more
+unfolding listed_script
+StoppedWith-listed before now after whole s moment next rows names i name old places more inside is to stopped =
+    to.stopped after more
+    (subst (λ rest. StoppedWith now after rest places more) (sym (listed_at s moment next rows names i name inside is))
+    (StoppedWith-first now after (call_script (key_at s name) Describe moment) (λ reply. listed_script s moment next (rows ++ rows_in reply) (drop (i + 1) names)) places more stopped))
+
+pub RanWith-listed_end : (before now : Seen) (whole : Script Reply) (s : SiteId) (moment : ℕ) (next : Option ℕ) (rows : List Row) (names : List Name) (i : ℕ) (old places : List Place)
+    → length names ≤ i → LeadsTo before now whole (listed_script s moment next rows (drop i names)) old places → RanWith before now whole (Described rows next) old places
+unfolding listed_script
+RanWith-listed_end before now whole s moment next rows names i old places all to =
+    (subst (λ l. LeadsTo before now whole (listed_script s moment next rows l) old places) (drop_of_length-le names all) to).ran now (Described rows next) places
+    (RanWith-ends now (Described rows next) places)
+
+-- ---- what a function gives
+
+-- it holds whatever the result is
+pub OnErr-always : {A E : Type 0} (r : Result A E) (P : Type 0) → P → OnErr r P
+OnErr-always (Ok a) P holds = tt
+OnErr-always (Err e) P holds = holds
+
+-- a call on a repository that is known by another word
+pub StoppedWith-key : (before after : Seen) (key other : RepoKey) (call : Call) (moment : ℕ) (answer : Reply) (old now : List Place) → key ≡ other
+    → RanWith before after (call_script key call moment) answer old now → StoppedWith before after (call_script other call moment) old now
+StoppedWith-key before after key other call moment answer old now same w =
+    subst (λ k. StoppedWith before after (call_script k call moment) old now) same (StoppedWith-whole before after (call_script key call moment) answer old now w)
+
+-- the served sites stay
+pub Contains-described : (now after : Seen) (s : SiteId) (name : Name) (moment : ℕ) (rows rows_after : List Row) (refusal : Option Refusal) (places more : List Place)
+    → IsDescribed now after s name moment rows rows_after refusal places more → Contains now.realm.served s → Contains after.realm.served s
+Contains-described now after s name moment rows rows_after refusal places more d at =
+    subst (λ (r : Realm). Contains r.served s) (sym d.ran.ran.realm_stays) at
+
+-- the same of a refusal that is known by another word
+pub IsDescribed-same : (now after : Seen) (s : SiteId) (name : Name) (moment : ℕ) (rows rows_after : List Row) (refusal other : Option Refusal) (places more : List Place) → refusal ≡ other
+    → IsDescribed now after s name moment rows rows_after refusal places more → IsDescribed now after s name moment rows rows_after other places more
+IsDescribed-same now after s name moment rows rows_after refusal other places more same d =
+    subst (λ o. IsDescribed now after s name moment rows rows_after o places more) same d
+
+-- the whole script ends with these rows
+pub RanWith-named_rows : (before now : Seen) (whole : Script Reply) (s : SiteId) (moment : ℕ) (rows others : List Row) (names : List Name) (i : ℕ) (old places : List Place) → others ≡ rows
+    → length names ≤ i → LeadsTo before now whole (named_script s moment rows (drop i names)) old places → RanWith before now whole (Described others None) old places
+RanWith-named_rows before now whole s moment rows others names i old places same all to =
+    subst (λ r. RanWith before now whole (Described r None) old places) (sym same) (RanWith-named_end before now whole s moment rows names i old places all to)
+
+pub RanWith-listed_rows : (before now : Seen) (whole : Script Reply) (s : SiteId) (moment : ℕ) (next : Option ℕ) (rows others : List Row) (names : List Name) (i : ℕ) (old places : List Place) → others ≡ rows
+    → length names ≤ i → LeadsTo before now whole (listed_script s moment next rows (drop i names)) old places → RanWith before now whole (Described others next) old places
+RanWith-listed_rows before now whole s moment next rows others names i old places same all to =
+    subst (λ r. RanWith before now whole (Described r next) old places) (sym same) (RanWith-listed_end before now whole s moment next rows names i old places all to)

@@ -1,0 +1,11 @@
+use Rattle.std.proofs.Common.{refl}
+use Rattle.ecr_model.specs.Replies.{connection_line}
+use Rattle.ecr_session.proofs.answer.connection_line.Goals as goal
+
+pub returns-then-close : goal.returns-then-close
+unfolding connection_line
+returns-then-close c = rw c.if-close.true refl
+
+pub returns-else-close : goal.returns-else-close
+unfolding connection_line
+returns-else-close c = rw c.if-close.false refl

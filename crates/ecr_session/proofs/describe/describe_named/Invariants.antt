@@ -1,0 +1,12 @@
+use Rattle.std.proofs.Common.{[], drop}
+use Rattle.std.specs.List.{Contains}
+use Rattle.ecr_model.specs.Requests.{named_script}
+use Rattle.ecr_session.specs.Turns.{LeadsTo}
+use Rattle.ecr_session.proofs.describe.describe_named.Given as goal
+
+abbrev pub invariant-loop-name : goal.invariant-loop-name
+invariant-loop-name g l = record {
+  served : Contains (g.D.StillDesk.seen l.desk).realm.served l.site;
+  to : LeadsTo (g.D.StillDesk.seen l.fn.desk) (g.D.StillDesk.seen l.desk) (named_script l.site l.moment [] l.names)
+      (named_script l.site l.moment l.rows.items (drop l.name-index l.names)) l.fn.places.items l.places.items;
+}

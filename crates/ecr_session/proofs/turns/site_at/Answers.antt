@@ -1,0 +1,5 @@
+use Rattle.ecr_session.proofs.TurnLemmas.{OnErr-always, StoppedWith-nothing}
+use Rattle.ecr_session.proofs.turns.site_at.Goals as goal
+
+pub returns-in_err-reserve-clause-stopped : goal.returns-in_err-reserve-clause-stopped
+returns-in_err-reserve-clause-stopped g c = OnErr-always _ _ (StoppedWith-nothing _ _ _ _ c.reserve.ensures.items)

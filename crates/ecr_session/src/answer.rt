@@ -1,0 +1,236 @@
+// What a request is answered.
+ghost use Rattle.std.specs.Prelude.{◌≡◌, ◌<◌, codes, length, IfErr, IfOk, OnErr};
+ghost use Rattle.ecr_api.specs.Readings.{NamesNoPart, Reads, meaning};
+ghost use Rattle.ecr_http.specs.Replies.{reply_bytes};
+ghost use Rattle.ecr_model.specs.Actions.{asks, reading};
+ghost use Rattle.ecr_model.specs.Posed.{api, base_of, is_json_call, posed_of, posed_script, target_of};
+ghost use Rattle.ecr_model.specs.Replies.{connection_line, empty_reply};
+ghost use Rattle.ecr_model.specs.Requests.{asked_script, of_site};
+ghost use Rattle.ecr_model.specs.Stream.{closes};
+ghost use Rattle.ecr_session.specs.Serving.{Answers, cut_of};
+ghost use Rattle.ecr_session.specs.Turns.{IsAskable, IsReplied, RanWith, StoppedWith};
+
+use crate::describe::describe;
+use crate::host::site_for;
+use crate::turns::{call_at, site_at};
+use ecr_api::{ApiRefusal, Asked, read_call, write_refused, write_reply};
+use ecr_blob_upload::Load;
+use ecr_desk::StillDesk;
+use ecr_http::{HttpReply, closes, first_value, path_of};
+use ecr_model::{Call, Cut, Mem, Moment, Place, Refusal, Reply, Request, SiteId, SiteReply};
+use std::alloc::Global;
+
+/// Room for the head of a reply without a body.
+const HEAD_ROOM: usize = 128;
+
+/// The answer to a request.
+#[derive(Drop)]
+pub(crate) struct Answer {
+    /// None where there was no memory for it; the fixed reply is sent then.
+    pub reply: Option<HttpReply>,
+    pub places: Vec<Place>,
+    pub cut: Cut,
+}
+
+/// Answers a request at the moment. Without memory the turns that it made stay.
+pub(crate) fn answer_request<D: StillDesk>(
+    alloc: Global,
+    desk: &mut D,
+    moment: Moment,
+    request: &Request,
+) -> Answer
+    requires { 0 < length (D.seen desk.old).realm.served }
+    ensures { Answers (D.seen desk.old) (D.seen desk.new) moment request.now result.reply result.places.items result.cut }
+{
+    let before = desk.made();
+    let mut places = Vec::new(alloc);
+    let reply = try_answer(alloc, desk, moment, request, &mut places);
+    let entries = desk.made() - before;
+    match reply {
+        Ok(reply) => Answer {
+            reply: Some(reply),
+            places,
+            cut: cut_of(entries, false),
+        },
+        Err(_) => Answer {
+            reply: None,
+            places,
+            cut: cut_of(entries, true),
+        },
+    }
+}
+
+// The cut of a request that completes no upload.
+fn cut_of(entries: u64, failed: bool) -> Cut
+    ensures { result ≡ cut_of entries failed }
+{
+    Cut {
+        entries,
+        failed,
+        sealed: None,
+    }
+}
+
+// The reply to a request, whose places are put behind the others.
+fn try_answer<D: StillDesk>(
+    alloc: Global,
+    desk: &mut D,
+    moment: Moment,
+    request: &Request,
+    places: &mut Vec<Place>,
+) -> Result<HttpReply, Mem>
+    requires { 0 < length (D.seen desk.old).realm.served }
+    ensures replied { IfOk result (λ r. IsReplied (D.seen desk.old) (D.seen desk.new) (posed_of (D.seen desk.old).realm.served request.now) moment (closes request.now) r places.old.items places.new.items) }
+    ensures stopped { OnErr result (StoppedWith (D.seen desk.old) (D.seen desk.new) (posed_script (posed_of (D.seen desk.old).realm.served request.now) moment) places.old.items places.new.items) }
+{
+    if !is_json_call(request) {
+        return write_not_found(alloc, closes(request));
+    }
+    match read_request(alloc, desk.served(), request) {
+        Ok(asked) => answer_asked(alloc, desk, &asked, moment, closes(request), places),
+        Err(ApiRefusal::Refused(refusal)) => write_refused(alloc, &refusal, closes(request)),
+        Err(ApiRefusal::Mem) => Err(Mem),
+    }
+}
+
+// Whether the request is one of the JSON API.
+#[tactic(auto, unfolding(ecr_model::specs::Posed::is_json_call))]
+fn is_json_call(request: &Request) -> bool
+    ensures { result ≡ is_json_call request.now }
+{
+    request.method.as_bytes() == b"POST".as_slice()
+        && path_of(request.target.as_bytes()) == b"/".as_slice()
+}
+
+// What a request of the JSON API asks for, at the site that its Host names of those that are served.
+fn read_request(alloc: Global, served: &[SiteId], request: &Request) -> Result<Asked, ApiRefusal>
+    requires { 0 < length served.now }
+    ensures exact { Reads result (reading (target_of request.now) request.now.body (base_of served.now request.now) served.now) }
+    ensures plain { IfErr result NamesNoPart }
+{
+    let host = first_value(request.fields.as_slice(), b"host");
+    let base = site_for(served, host);
+    read_call(
+        alloc,
+        target_of(request),
+        request.body.as_bytes(),
+        base,
+        served,
+    )
+}
+
+// The value of X-Amz-Target; where it isn't there, no bytes.
+fn target_of(request: &Request) -> &[u8]
+    ensures { result.now ≡ target_of request.now }
+{
+    match first_value(request.fields.as_slice(), b"x-amz-target") {
+        Some(value) => value,
+        None => b"",
+    }
+}
+
+// The reply to what is asked.
+fn answer_asked<D: StillDesk>(
+    alloc: Global,
+    desk: &mut D,
+    asked: &Asked,
+    moment: Moment,
+    close: bool,
+    places: &mut Vec<Place>,
+) -> Result<HttpReply, Mem>
+    requires { IsAskable (D.seen desk.old).realm.served (meaning asked.now) }
+    ensures replied { IfOk result (λ r. IsReplied (D.seen desk.old) (D.seen desk.new) (api (asks (meaning asked.now))) moment close r places.old.items places.new.items) }
+    ensures stopped { OnErr result (StoppedWith (D.seen desk.old) (D.seen desk.new) (posed_script (api (asks (meaning asked.now))) moment) places.old.items places.new.items) }
+{
+    let reply = run_asked(alloc, desk, asked, moment, places)?;
+    write_reply(alloc, asked, &reply, &[], close)
+}
+
+// Makes the turns of what is asked.
+fn run_asked<D: StillDesk>(
+    alloc: Global,
+    desk: &mut D,
+    asked: &Asked,
+    moment: Moment,
+    places: &mut Vec<Place>,
+) -> Result<Reply, Mem>
+    requires { IsAskable (D.seen desk.old).realm.served (meaning asked.now) }
+    ensures ran { IfOk result (λ r. RanWith (D.seen desk.old) (D.seen desk.new) (asked_script (meaning asked.now) moment) r places.old.items places.new.items) }
+    ensures stopped { OnErr result (StoppedWith (D.seen desk.old) (D.seen desk.new) (asked_script (meaning asked.now) moment) places.old.items places.new.items) }
+{
+    match asked {
+        Asked::Cell { key, call, load } => {
+            let call = copy_of(call)?;
+            call_at(alloc, desk, key, call, load_of(load), moment, places)
+        }
+        Asked::Site { site, call } => {
+            let reply = site_at(alloc, desk, site, *call, places)?;
+            Ok(of_site(reply))
+        }
+        Asked::Many { site, names, page } => {
+            describe(alloc, desk, site, names, *page, moment, places)
+        }
+    }
+}
+
+// The same call.
+fn copy_of(call: &Call) -> Result<Call, Mem>
+    ensures { IfOk result (λ c. c ≡ call.now) }
+{
+    let call = call.clone()?;
+    Ok(call)
+}
+
+// The content that comes with the call.
+fn load_of(load: &Load) -> Load
+    ensures { result ≡ load.now }
+{
+    match load {
+        Load::Nothing => Load::Nothing,
+    }
+}
+
+// The reply to a call on a site; the names of a site are no action.
+fn of_site(reply: SiteReply) -> Reply
+    ensures { result ≡ of_site reply }
+{
+    match reply {
+        SiteReply::Names { .. } => Reply::Refused(Refusal::UnknownOperation),
+        SiteReply::Refused(refusal) => Reply::Refused(refusal),
+    }
+}
+
+// The reply where nothing is served.
+fn write_not_found(alloc: Global, close: bool) -> Result<HttpReply, Mem>
+    ensures { IfOk result (λ r. reply_bytes r ≡ empty_reply close (codes "404 Not Found")) }
+{
+    let head = write_empty(alloc, close, "404 Not Found")?;
+    Ok(HttpReply {
+        head,
+        body: Vec::new(alloc),
+        tail: Vec::new(alloc),
+    })
+}
+
+// The head of a reply without a body.
+#[tactic(auto, unfolding(ecr_model::specs::Replies::empty_reply))]
+fn write_empty(alloc: Global, close: bool, status: &str) -> Result<Vec<u8>, Mem>
+    ensures { IfOk result (λ v. v.items ≡ empty_reply close status.now) }
+{
+    let mut head = Vec::with_capacity(alloc, HEAD_ROOM)?;
+    head.extend_from_slice(b"HTTP/1.1 ")?;
+    head.extend_from_slice(status.as_bytes())?;
+    head.extend_from_slice(b"\r\n")?;
+    head.extend_from_slice(connection_line(close))?;
+    head.extend_from_slice(b"Content-Length: 0")?;
+    head.extend_from_slice(b"\r\n")?;
+    head.extend_from_slice(b"\r\n")?;
+    Ok(head)
+}
+
+// The header of a reply after which the session closes (RFC 9112, section 9.6).
+fn connection_line(close: bool) -> &'static [u8]
+    ensures { result.now ≡ connection_line close }
+{
+    if close { b"Connection: close\r\n" } else { b"" }
+}

@@ -1,0 +1,94 @@
+// A session over a desk of one caller.
+ghost use Rattle.std.specs.Prelude.{◌≡◌, ◌<◌, ◌+◌, false, length, map};
+ghost use Rattle.ecr_model.specs.Sessions.{Account, Outside, Serves, Setting};
+ghost use Rattle.ecr_session.specs.Serving.{account_of, entries_in};
+
+use crate::session::Session;
+use ecr_desk::StillDesk;
+use ecr_model::{Cut, End, Moment, Place};
+use ecr_outside::{Clock, Sink, Source};
+use std::alloc::Global;
+
+/// How a session is served.
+#[derive(Clone, Copy)]
+pub struct Mode {
+    /// Whether requests of control are served, which none is yet.
+    pub control: bool,
+    /// The moment of each request, in seconds; without it the clock is asked once for each.
+    pub fixed: Option<Moment>,
+}
+
+/// How a session ended, and what it says of its requests: one moment, one list of places and one cut for each that was
+/// answered.
+#[derive(Drop)]
+pub struct SessionEnd<P> {
+    /// That of a caller of several, where there is one.
+    pub pass: P,
+    /// In seconds.
+    pub moments: Vec<Moment>,
+    pub places: Vec<Vec<Place>>,
+    pub cuts: Vec<Cut>,
+    pub end: End,
+}
+
+/// Serves the requests of the source by the desk until the session ends, and says how.
+///
+/// Each reply is written as soon as its request was answered, and a request's moment is taken once it was read whole. The
+/// room for what the session says of a request is taken before the request is read. A request that finds no memory is
+/// answered by the fixed reply, the turns that it made stay, and the session goes on.
+pub fn session_still<D: StillDesk, S: Source, K: Sink, C: Clock>(
+    alloc: Global,
+    desk: &mut D,
+    mode: Mode,
+    source: &mut S,
+    sink: &mut K,
+    clock: &mut C,
+) -> SessionEnd<()>
+    requires plain { mode.control ≡ false }
+    requires some { 0 < length (D.seen desk.old).realm.served }
+
+    // What the session read, answered and wrote, and what is on the desk afterwards.
+    ensures serves { Serves
+        (record { realm = (D.seen desk.old).realm; first = (D.seen desk.old).world; fixed = mode.fixed })
+        (record { left = S.left source.old; held = K.held sink.old; told = C.told clock.old; read_faults = S.faults source.old; write_faults = K.faults sink.old })
+        (record { left = S.left source.new; held = K.held sink.new; told = C.told clock.new; read_faults = S.faults source.new; write_faults = K.faults sink.new })
+        (record { moments = result.moments.items; places = map (λ v. v.items) result.places.items; cuts = result.cuts.items })
+        (D.seen desk.new).world result.end }
+    ensures realm_stays { (D.seen desk.new).realm ≡ (D.seen desk.old).realm }
+    ensures counted { (D.seen desk.new).made ≡ (D.seen desk.old).made + entries_in result.cuts.items }
+{
+    match Session::new(alloc) {
+        Err(_) => SessionEnd {
+            pass: (),
+            moments: Vec::new(alloc),
+            places: Vec::new(alloc),
+            cuts: Vec::new(alloc),
+            end: End::Mem,
+        },
+        Ok(mut session) => {
+            let end = session.run(alloc, desk, mode.fixed, source, sink, clock);
+            ended(session, end)
+        }
+    }
+}
+
+// What the session says at its end.
+fn ended(session: Session, end: End) -> SessionEnd<()>
+    ensures account { (record { moments = result.moments.items; places = map (λ v. v.items) result.places.items; cuts = result.cuts.items }) ≡ account_of session }
+    ensures cuts { result.cuts.items ≡ session.cuts.items }
+    ensures end { result.end ≡ end }
+{
+    let Session {
+        reader: _reader,
+        moments,
+        places,
+        cuts,
+    } = session;
+    SessionEnd {
+        pass: (),
+        moments,
+        places,
+        cuts,
+        end,
+    }
+}

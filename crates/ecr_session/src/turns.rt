@@ -1,0 +1,47 @@
+// Calls on a desk, whose places are kept. The room for a place is taken before its turn.
+ghost use Rattle.std.specs.Prelude.{◌≡◌, Contains, IfOk, OnErr};
+ghost use Rattle.ecr_model.specs.Requests.{call_script, site_script};
+ghost use Rattle.ecr_session.specs.Turns.{RanWith, StoppedWith};
+
+use ecr_blob_upload::Load;
+use ecr_desk::StillDesk;
+use ecr_model::{Call, Mem, Moment, Place, Reply, RepoKey, SiteCall, SiteId, SiteReply};
+use std::alloc::Global;
+
+/// A call on a repository. It has at most two turns.
+pub(crate) fn call_at<D: StillDesk>(
+    alloc: Global,
+    desk: &mut D,
+    key: &RepoKey,
+    call: Call,
+    load: Load,
+    moment: Moment,
+    places: &mut Vec<Place>,
+) -> Result<Reply, Mem>
+    requires served { Contains (D.seen desk.old).realm.served key.now.site }
+    ensures ran { IfOk result (λ r. RanWith (D.seen desk.old) (D.seen desk.new) (call_script key.now call moment) r places.old.items places.new.items) }
+    ensures stopped { OnErr result (StoppedWith (D.seen desk.old) (D.seen desk.new) (call_script key.now call moment) places.old.items places.new.items) }
+{
+    places.reserve(2)?;
+    let mut answer = desk.call(alloc, key, call, load, moment)?;
+    places.append(&mut answer.places)?;
+    Ok(answer.reply)
+}
+
+/// A call on a site's directory.
+pub(crate) fn site_at<D: StillDesk>(
+    alloc: Global,
+    desk: &mut D,
+    site: &SiteId,
+    call: SiteCall,
+    places: &mut Vec<Place>,
+) -> Result<SiteReply, Mem>
+    requires served { Contains (D.seen desk.old).realm.served site.now }
+    ensures ran { IfOk result (λ r. RanWith (D.seen desk.old) (D.seen desk.new) (site_script site.now call) r places.old.items places.new.items) }
+    ensures stopped { OnErr result (StoppedWith (D.seen desk.old) (D.seen desk.new) (site_script site.now call) places.old.items places.new.items) }
+{
+    places.reserve(1)?;
+    let answer = desk.registry(alloc, site, call)?;
+    places.push_reserved(answer.place);
+    Ok(answer.reply)
+}
