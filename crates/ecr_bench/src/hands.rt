@@ -3,7 +3,7 @@ ghost use Rattle.std.specs.Prelude.{◌≡◌, [], IfOk};
 ghost use Rattle.ecr_turn.specs.Journals.{MayFollow};
 ghost use Rattle.ecr_turn.specs.Passes.{no_frame};
 
-use ecr_model::{Entry, Line, Mem};
+use ecr_model::{Act, Call, Entry, Line, Listed, Mem};
 use ecr_turn::{Journal, Pass, Turnstile};
 use std::alloc::Global;
 use std::marker::Model;
@@ -34,7 +34,7 @@ impl Log {
     {
         let mut lines = Vec::with_capacity(alloc, room)?;
         for _ in 0..room {
-            lines.push(line(0, 0))?;
+            lines.push(line(alloc, 0, 0))?;
         }
         lines.clear();
         Ok(Log {
@@ -44,9 +44,10 @@ impl Log {
     }
 
     // Adds the entry, where there is room.
-    fn add(&mut self, line: Line)
-        ensures { MayFollow line.ticket line.caller self.old.lines.items self.new.lines.items }
+    fn add(&mut self, ticket: u64, caller: u64)
+        ensures { MayFollow ticket caller self.old.lines.items self.new.lines.items }
     {
+        let line = line(*self.lines.allocator(), ticket, caller);
         match self.lines.push(line) {
             Ok(()) => {}
             Err(_) => {}
@@ -55,13 +56,20 @@ impl Log {
 }
 
 // A small entry.
-fn line(ticket: u64, caller: u64) -> Line
+fn line(alloc: Global, ticket: u64, caller: u64) -> Line
     ensures { (result.ticket ≡ ticket) × (result.caller ≡ caller) }
 {
     Line {
         ticket,
         caller,
-        entry: Entry { moment: 0 },
+        entry: Entry {
+            moment: 0,
+            act: Act::Called {
+                call: Call::Describe,
+                destinations: Listed::new(alloc),
+                sealed: None,
+            },
+        },
     }
 }
 
@@ -95,7 +103,7 @@ impl Hand for Locked {
     }
 
     fn add<R: Wait>(&mut self, rt: &R) {
-        self.list.lock(rt).add(line(0, 0));
+        self.list.lock(rt).add(0, 0);
     }
 }
 
@@ -154,6 +162,6 @@ fn one_turn<R: Wait>(rt: &R, turnstile: &Turnstile<Log>, pass: Pass<Log>) -> Pas
     let caller = pass.caller();
     let mut turn = turnstile.enter(rt, pass);
     let ticket = turn.ticket();
-    turn.change().add(line(ticket, caller));
+    turn.change().add(ticket, caller);
     turn.leave()
 }

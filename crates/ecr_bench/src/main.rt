@@ -1,15 +1,17 @@
 //! Benchmarks of the library crates. The first word names one; without one the words are told.
 #![tactic(auto)]
 
+mod apis;
 mod hands;
 mod manifests;
 mod policies;
+mod repos;
 mod timing;
 mod turnstiles;
 
 use std::{env, io};
 
-const USAGE: &str = "ecr_bench policy | manifest | turnstile";
+const USAGE: &str = "ecr_bench policy | manifest | api | repo | turnstile";
 
 fn main(rt: HostRuntime) -> io::Result<()> {
     let words: Vec<String> = env::args(&rt)?.skip(1).collect(rt.alloc())?;
@@ -30,6 +32,10 @@ fn run(rt: &HostRuntime, word: &str) -> io::Result<()> {
         policies::time(rt)
     } else if word == "manifest" {
         manifests::time(rt)
+    } else if word == "api" {
+        apis::time(rt)
+    } else if word == "repo" {
+        repos::time(rt)
     } else {
         println!(rt; "{USAGE}")
     }

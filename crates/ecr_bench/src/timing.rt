@@ -3,7 +3,7 @@ use std::io;
 use std::io::ErrorKind;
 use std::time::Instant;
 
-/// Reads so many times, and prints how long a read takes. Where one is refused, that is an error.
+/// Reads so many times, and prints how long it takes once. Where it is refused, that is an error.
 pub(crate) fn print_time<F: FnMut() -> bool>(
     rt: &HostRuntime,
     name: &str,
@@ -18,7 +18,6 @@ pub(crate) fn print_time<F: FnMut() -> bool>(
             return Err(ErrorKind::InvalidData.into());
         }
     }
-    let nanoseconds = start.elapsed(rt)?.as_nanos();
-    let microseconds = nanoseconds / 1000 / (times.max(1) as u128);
-    println!(rt; "{name}: {microseconds} microseconds a read")
+    let nanoseconds = start.elapsed(rt)?.as_nanos() / (times.max(1) as u128);
+    println!(rt; "{name}: {nanoseconds} nanoseconds")
 }
