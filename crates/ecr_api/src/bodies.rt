@@ -11,7 +11,7 @@ ghost use Rattle.ecr_api.specs.Writings.{NamesNoUpload, data_tokens, member_toke
 use crate::Asked;
 use ecr_base::{utf8_or_empty, write_arn_at, write_uri_at};
 use ecr_errors::refusal_body;
-use ecr_model::{Described, Mem, Moment, Mutability, Name, Reply, SiteId, Text};
+use ecr_model::{Described, Mem, Moment, Mutability, Reply, SiteId};
 use json::Writer;
 use std::alloc::Global;
 
@@ -52,7 +52,6 @@ fn repository_body(
     ensures { IfOk result (λ b. b.items
         ≡ compact_text (object (member (codes "repository") (repository_data (key_asked (meaning asked.now)) created mutability) no_members))) }
 {
-    let none = no_name(alloc);
     let mut out = begin(alloc, BODY_ROOM + ROW_ROOM)?;
     out.begin_object()?;
     out.key("repository")?;
@@ -60,7 +59,7 @@ fn repository_body(
         alloc,
         &mut out,
         site_asked(asked),
-        name_asked(asked, &none),
+        name_asked(asked),
         created,
         mutability,
     )?;
@@ -95,20 +94,15 @@ fn mutability_body(alloc: Global, asked: &Asked, mutability: Mutability) -> Resu
         (member (codes "registryId") (string (utf8_or_empty (key_asked (meaning asked.now)).site.account))
         (member (codes "repositoryName") (string (utf8_or_empty (key_asked (meaning asked.now)).name.text)) no_members))))) }
 {
-    let none = no_name(alloc);
     let mut out = begin(alloc, ROW_ROOM)?;
     out.begin_object()?;
     write_text(&mut out, "imageTagMutability", mutability_text(mutability))?;
     write_text(
         &mut out,
         "registryId",
-        utf8_or_empty(&site_asked(asked).account),
+        utf8_or_empty(site_asked(asked).account.as_bytes()),
     )?;
-    write_text(
-        &mut out,
-        "repositoryName",
-        utf8_or_empty(&name_asked(asked, &none).text),
-    )?;
+    write_text(&mut out, "repositoryName", utf8_or_empty(name_asked(asked)))?;
     out.end_object()?;
     Ok(finish(out))
 }
@@ -136,15 +130,6 @@ fn finish(out: Writer) -> Vec<u8>
     out.into_inner()
 }
 
-/// The empty name, which takes no memory.
-fn no_name(alloc: Global) -> Name
-    ensures { result.text ≡ [] }
-{
-    Name {
-        text: Text::from_vec(Vec::new(alloc)),
-    }
-}
-
 /// The site that was asked.
 fn site_asked<'a>(asked: &'a Asked) -> &'a SiteId
     ensures site { result.now ≡ site_asked (meaning asked.entry.now) }
@@ -158,14 +143,13 @@ fn site_asked<'a>(asked: &'a Asked) -> &'a SiteId
 }
 
 /// The name that was asked for; of a call on no single repository, the empty one.
-fn name_asked<'a>(asked: &'a Asked, none: &'a Name) -> &'a Name
-    requires { none.now.text ≡ [] }
-    ensures { result.now ≡ (key_asked (meaning asked.entry.now)).name }
+fn name_asked<'a>(asked: &'a Asked) -> &'a [u8]
+    ensures { result.now ≡ (key_asked (meaning asked.entry.now)).name.text }
 {
     match asked {
-        Asked::Cell { key, .. } => &key.name,
-        Asked::Site { .. } => none,
-        Asked::Many { .. } => none,
+        Asked::Cell { key, .. } => key.name.text.as_bytes(),
+        Asked::Site { .. } => b"",
+        Asked::Many { .. } => b"",
     }
 }
 
@@ -200,7 +184,8 @@ fn write_rows(alloc: Global, out: &mut Writer, site: &SiteId, rows: &[Described]
     ensures before { out.new.before ≡ out.old.before }
 {
     for row in rows {
-        write_repository(alloc, out, site, &row.name, row.created, row.mutability)?;
+        let name = row.name.text.as_bytes();
+        write_repository(alloc, out, site, name, row.created, row.mutability)?;
     }
     out.end_array()
 }
@@ -211,12 +196,12 @@ fn write_repository(
     alloc: Global,
     out: &mut Writer,
     site: &SiteId,
-    name: &Name,
+    name: &[u8],
     created: Moment,
     mutability: Mutability,
 ) -> Result<(), Mem>
     ensures ok { OnOk result (out.new.tokens
-        ≡ out.old.tokens ++ data_tokens (repository_data (record { site = site.now; name = name.now }) created mutability)) }
+        ≡ out.old.tokens ++ data_tokens (repository_data (record { site = site.now; name = record { text = name.now } }) created mutability)) }
     ensures before { out.new.before ≡ out.old.before }
 {
     let arn = write_arn_at(alloc, site, name)?;
@@ -224,9 +209,9 @@ fn write_repository(
     out.begin_object()?;
     write_whole(out, "createdAt", created)?;
     write_text(out, "imageTagMutability", mutability_text(mutability))?;
-    write_text(out, "registryId", utf8_or_empty(&site.account))?;
+    write_text(out, "registryId", utf8_or_empty(site.account.as_bytes()))?;
     write_text(out, "repositoryArn", arn.as_str())?;
-    write_text(out, "repositoryName", utf8_or_empty(&name.text))?;
+    write_text(out, "repositoryName", utf8_or_empty(name))?;
     write_text(out, "repositoryUri", uri.as_str())?;
     out.end_object()
 }

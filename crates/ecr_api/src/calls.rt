@@ -12,7 +12,7 @@ use crate::domains::{items_in, number_in, place_of, site_of, text_in};
 use crate::members::value_of;
 use ecr_blob_upload::Load;
 use ecr_model::{
-    Action, Call, Listed, Mem, Mutability, Name, Page, Parameter, RepoKey, SiteId, Text, Twin,
+    Action, Call, Listed, Mem, Mutability, Name, Page, Parameter, RepoKey, SharedText, SiteId, Twin,
 };
 use serde_json::Value;
 use std::alloc::Global;
@@ -175,7 +175,7 @@ fn names_of(alloc: Global, items: &[Value]) -> Result<Listed<Name>, Mem>
 fn name_of(alloc: Global, text: &str) -> Result<Name, Mem>
     ensures { IfOk result (λ name. name ≡ record { text = text.now }) }
 {
-    let text = Text::copy_of(alloc, text.as_bytes())?;
+    let text = SharedText::copy_of(alloc, text.as_bytes())?;
     Ok(Name { text })
 }
 

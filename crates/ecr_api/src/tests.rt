@@ -6,7 +6,8 @@ use ecr_base::write_uri;
 use ecr_blob_upload::Load;
 use ecr_http::HttpReply;
 use ecr_model::{
-    Call, Described, Listed, Mem, Mutability, Name, Page, Refusal, Reply, RepoKey, SiteId, Text,
+    Call, Described, Listed, Mem, Mutability, Name, Page, Refusal, Reply, RepoKey, SharedText,
+    SiteId,
 };
 use std::alloc::Global;
 use std::test::Fail;
@@ -413,14 +414,14 @@ fn text_of(alloc: Global, bytes: &[u8]) -> Result<String, Fail> {
 fn site_at(alloc: Global, place: usize) -> Result<SiteId, Mem> {
     let (region, account) = SITES[place % 3];
     Ok(SiteId {
-        region: Text::copy_of(alloc, region.as_bytes())?,
-        account: Text::copy_of(alloc, account.as_bytes())?,
+        region: SharedText::copy_of(alloc, region.as_bytes())?,
+        account: SharedText::copy_of(alloc, account.as_bytes())?,
     })
 }
 
 /// The text as a name.
 fn name_of(alloc: Global, text: &str) -> Result<Name, Mem> {
     Ok(Name {
-        text: Text::copy_of(alloc, text.as_bytes())?,
+        text: SharedText::copy_of(alloc, text.as_bytes())?,
     })
 }

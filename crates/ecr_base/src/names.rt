@@ -2,7 +2,7 @@
 ghost use Rattle.std.specs.Prelude.{◌≡◌, ◌↔◌, ℕ, List, IsTrue, IfOk, MatchOption};
 ghost use Rattle.ecr_model.specs.Names.{IsName, after_dash, after_underscore, after_word, at_word, is_alphanumeric, is_name, name_of};
 
-use ecr_model::{Mem, Name, Text};
+use ecr_model::{Mem, Name, SharedText};
 use std::alloc::Global;
 
 /// The fewest bytes of a name (Amazon ECR API Reference, `CreateRepository`).
@@ -32,7 +32,7 @@ pub fn read_name(alloc: Global, text: &[u8]) -> Result<Option<Name>, Mem>
     if !is_name(text) {
         return Ok(None);
     }
-    let text = Text::copy_of(alloc, text)?;
+    let text = SharedText::copy_of(alloc, text)?;
     Ok(Some(Name { text }))
 }
 

@@ -1,12 +1,12 @@
 // Sites, and the names of repositories across sites.
-ghost use Rattle.std.specs.Prelude.{◌≡◌, ◌<◌, ◌↔◌, ℕ, List, IfOk, MatchOption, Some, length, string_bytes};
+ghost use Rattle.std.specs.Prelude.{◌≡◌, ◌<◌, ◌↔◌, ℕ, List, IfOk, MatchOption, Some, IsUtf8, length, string_bytes};
 ghost use Rattle.std.specs.Bool.{OnTrue};
 ghost use Rattle.std.specs.List.{list_all};
 ghost use Rattle.ecr_model.specs.declared.names.Name.{Name};
 ghost use Rattle.ecr_model.specs.declared.names.SiteId.{SiteId};
 ghost use Rattle.ecr_model.specs.Sites.{IsSite, ReadsSite, arn_of, is_account, is_digit, is_region, is_region_byte, is_site_word, site_of, site_word, uri_of, utf8_or_empty};
 
-use ecr_model::{Mem, Name, RepoKey, SiteId, Text};
+use ecr_model::{Mem, RepoKey, SharedText, SiteId};
 use std::alloc::Global;
 
 /// The bytes of an account and of the `/` before it.
@@ -22,8 +22,8 @@ pub fn read_site(alloc: Global, word: &[u8]) -> Result<Option<SiteId>, Mem>
         return Ok(None);
     }
     let slash = word.len() - TAIL_LENGTH;
-    let region = Text::copy_of(alloc, &word[..slash])?;
-    let account = Text::copy_of(alloc, &word[slash + 1..])?;
+    let region = SharedText::copy_of(alloc, &word[..slash])?;
+    let account = SharedText::copy_of(alloc, &word[slash + 1..])?;
     Ok(Some(SiteId { region, account }))
 }
 
@@ -37,52 +37,55 @@ pub fn site_has_one_reader()
 pub fn write_arn(alloc: Global, key: &RepoKey) -> Result<String, Mem>
     ensures { IfOk result (λ text. string_bytes text ≡ arn_of key.now) }
 {
-    write_arn_at(alloc, &key.site, &key.name)
+    write_arn_at(alloc, &key.site, key.name.text.as_bytes())
 }
 
 /// The ARN of the repository of that name at the site.
 #[tactic(auto, unfolding(ecr_model::specs::Sites::arn_of))]
-pub fn write_arn_at(alloc: Global, site: &SiteId, name: &Name) -> Result<String, Mem>
+pub fn write_arn_at(alloc: Global, site: &SiteId, name: &[u8]) -> Result<String, Mem>
     ensures { IfOk result
-        (λ text. string_bytes text ≡ arn_of (record { site = site.now; name = name.now })) }
+        (λ text. string_bytes text ≡ arn_of (record { site = site.now; name = record { text = name.now } })) }
 {
-    let mut arn = Vec::new(alloc);
+    let mut arn = Vec::with_capacity(alloc, room_for(site, name))?;
     arn.extend_from_slice(b"arn:aws:ecr:")?;
     arn.extend_from_slice(site.region.as_bytes())?;
     arn.extend_from_slice(b":")?;
     arn.extend_from_slice(site.account.as_bytes())?;
     arn.extend_from_slice(b":repository/")?;
-    arn.extend_from_slice(name.text.as_bytes())?;
-    write_utf8(alloc, arn.as_slice())
+    arn.extend_from_slice(name)?;
+    Ok(utf8_from(alloc, arn))
 }
 
 /// A repository's URI: `ACCOUNT.dkr.ecr.REGION.amazonaws.com/NAME`, or the empty text where that isn't UTF-8.
 pub fn write_uri(alloc: Global, key: &RepoKey) -> Result<String, Mem>
     ensures { IfOk result (λ text. string_bytes text ≡ uri_of key.now) }
 {
-    write_uri_at(alloc, &key.site, &key.name)
+    write_uri_at(alloc, &key.site, key.name.text.as_bytes())
 }
 
 /// The URI of the repository of that name at the site.
 #[tactic(auto, unfolding(ecr_model::specs::Sites::uri_of))]
-pub fn write_uri_at(alloc: Global, site: &SiteId, name: &Name) -> Result<String, Mem>
+pub fn write_uri_at(alloc: Global, site: &SiteId, name: &[u8]) -> Result<String, Mem>
     ensures { IfOk result
-        (λ text. string_bytes text ≡ uri_of (record { site = site.now; name = name.now })) }
+        (λ text. string_bytes text ≡ uri_of (record { site = site.now; name = record { text = name.now } })) }
 {
-    let mut uri = Vec::new(alloc);
+    let mut uri = Vec::with_capacity(alloc, room_for(site, name))?;
     uri.extend_from_slice(site.account.as_bytes())?;
     uri.extend_from_slice(b".dkr.ecr.")?;
     uri.extend_from_slice(site.region.as_bytes())?;
     uri.extend_from_slice(b".amazonaws.com/")?;
-    uri.extend_from_slice(name.text.as_bytes())?;
-    write_utf8(alloc, uri.as_slice())
+    uri.extend_from_slice(name)?;
+    Ok(utf8_from(alloc, uri))
 }
 
-/// The text as a `str`, or the empty one where it isn't UTF-8.
-pub fn utf8_or_empty(text: &Text) -> &str
-    ensures { result.now ≡ utf8_or_empty text.now }
+/// These bytes as a `str`, or the empty one where they aren't UTF-8.
+pub fn utf8_or_empty(bytes: &[u8]) -> &str
+    ensures { result.now ≡ utf8_or_empty bytes.now }
 {
-    utf8_of(text.as_bytes())
+    match str::from_utf8(bytes) {
+        Ok(text) => text,
+        Err(_) => "",
+    }
 }
 
 /// Whether the word is a region, a `/` and an account.
@@ -140,19 +143,32 @@ fn is_digit(byte: u8) -> bool
     matches!(byte, b'0'..=b'9')
 }
 
-/// A copy of these bytes as a text, or the empty text where they aren't UTF-8.
-fn write_utf8(alloc: Global, bytes: &[u8]) -> Result<String, Mem>
-    ensures { IfOk result (λ text. string_bytes text ≡ utf8_or_empty bytes.now) }
+/// These bytes, which are UTF-8, as a text. They aren't copied.
+fn utf8_in(bytes: Vec<u8>) -> String
+    requires { IsUtf8 bytes.items }
+    ensures { string_bytes result ≡ bytes.items }
 {
-    String::from_str(alloc, utf8_of(bytes))
+    match String::from_utf8(bytes) {
+        Ok(text) => text,
+        Err(_) => unreachable!(),
+    }
 }
 
-/// The text of these bytes, or the empty one where they aren't UTF-8.
-fn utf8_of(bytes: &[u8]) -> &str
-    ensures { result.now ≡ utf8_or_empty bytes.now }
+/// Room for an ARN or a URI of that name, in bytes: what stands around its parts takes less than this.
+fn room_for(site: &SiteId, name: &[u8]) -> usize {
+    site.region
+        .as_bytes()
+        .len()
+        .saturating_add(name.len())
+        .saturating_add(64)
+}
+
+/// These bytes as a text, which aren't copied, or the empty text where they aren't UTF-8.
+fn utf8_from(alloc: Global, bytes: Vec<u8>) -> String
+    ensures { string_bytes result ≡ utf8_or_empty bytes.items }
 {
-    match str::from_utf8(bytes) {
-        Ok(text) => text,
-        Err(_) => "",
+    match str::from_utf8(bytes.as_slice()) {
+        Ok(_) => utf8_in(bytes),
+        Err(_) => String::new(alloc),
     }
 }

@@ -2,7 +2,7 @@ use crate::{
     is_name, is_tag, read_digest, read_name, read_site, read_tag, utf8_or_empty, write_arn,
     write_digest, write_upload_id, write_uri,
 };
-use ecr_model::{RepoKey, Text};
+use ecr_model::RepoKey;
 use std::test::Fail;
 
 #[test]
@@ -108,9 +108,7 @@ fn an_upload_id_is_its_number(rt: HostRuntime) -> Result<(), Fail> {
 
 #[test]
 fn what_is_not_utf8_is_empty(rt: HostRuntime) -> Result<(), Fail> {
-    let text = Text::copy_of(rt.alloc(), "é".as_bytes())?;
-    assert_eq!(rt; utf8_or_empty(&text), "é");
-    let cut = Text::copy_of(rt.alloc(), &[b'a', 0xc3])?;
-    assert_eq!(rt; utf8_or_empty(&cut), "");
+    assert_eq!(rt; utf8_or_empty("é".as_bytes()), "é");
+    assert_eq!(rt; utf8_or_empty(&[b'a', 0xc3]), "");
     Ok(())
 }

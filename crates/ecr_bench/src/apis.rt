@@ -1,7 +1,7 @@
 // Calls that are read, and replies that are written.
 use crate::timing::print_time;
 use ecr_api::{Asked, read_call, write_reply};
-use ecr_model::{Described, Listed, Mem, Mutability, Name, Page, Reply, SiteId, Text};
+use ecr_model::{Described, Listed, Mem, Mutability, Name, Page, Reply, SharedText, SiteId};
 use std::alloc::Global;
 use std::io;
 
@@ -47,8 +47,8 @@ pub(crate) fn time(rt: &HostRuntime) -> io::Result<()> {
 
 fn site(alloc: Global) -> Result<SiteId, Mem> {
     Ok(SiteId {
-        region: Text::copy_of(alloc, b"us-east-1")?,
-        account: Text::copy_of(alloc, b"111122223333")?,
+        region: SharedText::copy_of(alloc, b"us-east-1")?,
+        account: SharedText::copy_of(alloc, b"111122223333")?,
     })
 }
 
@@ -58,7 +58,7 @@ fn rows(alloc: Global, count: u32) -> Result<Listed<Described>, Mem> {
     for number in 0..count {
         let name = format!(in alloc; "team/app-{number}")?;
         let name = Name {
-            text: Text::copy_of(alloc, name.as_bytes())?,
+            text: SharedText::copy_of(alloc, name.as_bytes())?,
         };
         rows.push(Described {
             name,

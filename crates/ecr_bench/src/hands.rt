@@ -3,7 +3,7 @@ ghost use Rattle.std.specs.Prelude.{◌≡◌, [], IfOk};
 ghost use Rattle.ecr_turn.specs.Journals.{MayFollow};
 ghost use Rattle.ecr_turn.specs.Passes.{no_frame};
 
-use ecr_model::{Act, Call, Entry, Line, Listed, Mem};
+use ecr_model::{Act, Call, Entry, Line, Listed, Mem, Rare};
 use ecr_turn::{Journal, Pass, Turnstile};
 use std::alloc::Global;
 use std::marker::Model;
@@ -67,7 +67,7 @@ fn line(alloc: Global, ticket: u64, caller: u64) -> Line
             act: Act::Called {
                 call: Call::Describe,
                 destinations: Listed::new(alloc),
-                sealed: None,
+                sealed: Rare::none(),
             },
         },
     }

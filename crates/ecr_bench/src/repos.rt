@@ -3,7 +3,7 @@ ghost use Rattle.std.specs.Prelude.{◌≡◌, ◌≤◌, ◌+◌, ◌<◌, ◌^
 ghost use Rattle.ecr_model.specs.Journals.{past};
 
 use ecr_blob_upload::Load;
-use ecr_model::{Call, Limits, Line, Mem, Mutability, Name, RepoKey, SiteId, Text};
+use ecr_model::{Call, Limits, Line, Mem, Mutability, Name, RepoKey, SharedText, SiteId};
 use ecr_repo::RepoState;
 use std::alloc::Global;
 use std::io;
@@ -32,11 +32,11 @@ fn app(alloc: Global) -> Result<RepoState, Mem>
     ensures { IfOk result (λ s. s.journal ≡ []) }
 {
     let site = SiteId {
-        region: Text::copy_of(alloc, b"us-east-1")?,
-        account: Text::copy_of(alloc, b"111122223333")?,
+        region: SharedText::copy_of(alloc, b"us-east-1")?,
+        account: SharedText::copy_of(alloc, b"111122223333")?,
     };
     let name = Name {
-        text: Text::copy_of(alloc, b"team/app")?,
+        text: SharedText::copy_of(alloc, b"team/app")?,
     };
     Ok(RepoState::new(alloc, RepoKey { site, name }, Limits::standard()))
 }

@@ -1,5 +1,5 @@
 -- The turns of one caller as runs of scripts.
-use Rattle.std.proofs.Common.{◌≡◌, ◌+◌, ℕ, true, false, List, [], ◌∷◌, ◌++◌, None, Some, refl, sym, ap, ◌∙◌, subst, arith}
+use Rattle.std.proofs.Common.{◌≡◌, ℕ, true, false, List, [], ◌∷◌, ◌++◌, None, Some, refl, sym, ap, ◌∙◌, subst, arith}
 use Rattle.ecr_model.specs.declared.call.Call.{Call}
 use Rattle.ecr_model.specs.declared.call.Call.TheVariants.{Create, Delete, Describe, SetMutability}
 use Rattle.ecr_model.specs.declared.call.SiteCall.{SiteCall}

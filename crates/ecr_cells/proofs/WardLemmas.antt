@@ -174,29 +174,20 @@ IsRoom-new d key limits room same at is = record {
   numbered = ap (λ s. past s.journal) is ∙ ap (λ s. length s.journal) (sym is);
 }
 
-pub room_lines-none : (rooms : List (Name × State)) (name : Name) → is_some (room_at rooms name) ≡ false → room_lines rooms name ≡ []
-room_lines-none rooms name absent = empty (room_at rooms name) absent where
-  empty : (o : Option State) → is_some o ≡ false → option_map_or (λ (r : State). r.journal) o [] ≡ []
-  empty None absent = refl
-  empty (Some room) absent = cc
+pub room_lines-none : (rooms : List (Name × State)) (name : Name) → room_at rooms name ≡ None → room_lines rooms name ≡ []
+room_lines-none rooms name absent = ap (λ o. option_map_or (λ (r : State). r.journal) o []) absent
 
 pub room_lines-some : (rooms : List (Name × State)) (name : Name) (room : State) → room_at rooms name ≡ Some room → room_lines rooms name ≡ room.journal
 room_lines-some rooms name room found = ap (λ o. option_map_or (λ (r : State). r.journal) o []) found
 
--- that name has a room then
-pub room_at-put : (rooms news : List (Name × State)) (name : Name) (room : State) → Puts rooms news name room → room_at news name ≡ Some room
-room_at-put rooms news name room puts =
-    puts name ∙ cond-true (is_at (name_order name) name) (Some room) (room_at rooms name) (name-self name)
-
 pub IsTurn-room : (d : SiteJournal) (rooms news : List (Name × State)) (key : RepoKey) (room after : State) (ask : Ask) (told : Told) (place : Place)
-    → d.site ≡ key.site → room_at rooms key.name ≡ Some room → IsRoom d key.name room → Puts rooms news key.name after
+    → d.site ≡ key.site → room_lines rooms key.name ≡ room.journal → IsRoom d key.name room → Puts rooms news key.name after
     → IsRoomTurn room after ask told place
     → IsTurn (record { directory = d; rooms = rooms }) (record { directory = d; rooms = news }) (Repository key) ask told place
 unfolding turn_at
-IsTurn-room d rooms news key room after ask told place at found is puts turn =
+IsTurn-room d rooms news key room after ask told place at lines_are is puts turn =
     let lines : List Line = room_lines rooms key.name in
     let of : Option State → List Line = λ o. option_map_or (λ (r : State). r.journal) o [] in
-    let lines_are : lines ≡ room.journal = ap of found in
     let key_is : room.key ≡ key = is.key ∙ ap (λ s. key_at s key.name) at in
     let same : turn_after (realm_of d) (Repository key) lines ask ≡ room_now room ask =
     ap (λ ls. repository_turn key d.limits ls (past ls) ask) lines_are
@@ -227,29 +218,3 @@ IsTurn-room d rooms news key room after ask told place at found is puts turn =
           (λ same. absurd (both_ways (same_key key l) apart
           (and_from (bytes_eq key.name.text l.name.text) (same_site key.site l.site) (sym (is_eq-name_order key.name l.name) ∙ same) site)))
           (λ differs. refl)
-
--- ---- one after another
-
--- after what changed no journal, a turn is as before it
-pub IsTurn-quiet : (first before after : Held) (cell : CellKey) (ask : Ask) (told : Told) (place : Place)
-    → IsQuiet first before → IsTurn before after cell ask told place → IsTurn first after cell ask told place
-IsTurn-quiet first before after cell ask told place quiet turn =
-    let lines : lines_of before cell ≡ lines_of first cell = quiet.lines cell in
-    let realm : realm_of before.directory ≡ realm_of first.directory =
-    ap (λ s. record { served = s; limits = before.directory.limits }) quiet.same.served
-    ∙ ap (λ l. record { served = first.directory.served; limits = l }) quiet.same.limits in
-    let same : turn_after (realm_of before.directory) cell (lines_of before cell) ask ≡ turn_after (realm_of first.directory) cell (lines_of first cell) ask =
-    ap (λ r. turn_after r cell (lines_of before cell) ask) realm ∙ ap (λ ls. turn_after (realm_of first.directory) cell ls ask) lines in
-    record {
-      same = record {
-        site = turn.same.site ∙ quiet.same.site;
-        served = turn.same.served ∙ quiet.same.served;
-        limits = turn.same.limits ∙ quiet.same.limits;
-      };
-      told_is = turn.told_is ∙ ap (λ t. t.told) same;
-      placed = turn.placed ∙ ap (λ t. place_after cell (lines_of before cell) t) same
-          ∙ ap (λ ls. place_after cell ls (turn_after (realm_of first.directory) cell (lines_of first cell) ask)) lines;
-      entered = turn.entered ∙ ap (λ t. lines_after (lines_of before cell) t.entry) same
-          ∙ ap (λ ls. lines_after ls (turn_after (realm_of first.directory) cell (lines_of first cell) ask).entry) lines;
-      others = λ other apart there. turn.others other apart (there ∙ sym quiet.same.site) ∙ quiet.lines other;
-    }

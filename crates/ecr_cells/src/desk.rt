@@ -57,12 +57,7 @@ impl SoloDesk {
     }
 
     // The turn in the directory with which a call on a repository begins.
-    fn first_turn(
-        &mut self,
-        alloc: Global,
-        key: &RepoKey,
-        call: &Call,
-    ) -> Result<(First, Place), Mem>
+    fn first_turn(&mut self, key: &RepoKey, call: &Call) -> Result<(First, Place), Mem>
         requires served { Contains self.old.served key.now.site }
         requires room { self.old.made + 1 < 2 ^ 64 }
         ensures ran { IfOk result (λ t. Ran (seen_of self.old) (seen_of self.new) (scripts.first_turn key.now call.now) (told_of t.0) (t.1 ∷ [])) }
@@ -71,7 +66,7 @@ impl SoloDesk {
     {
         let site = copy_of(&key.site)?;
         if registers(call) {
-            self.register(alloc, site, &key.name)
+            self.register(site, &key.name)
         } else {
             Ok(self.knows(site, &key.name))
         }
@@ -117,13 +112,13 @@ impl SoloDesk {
     }
 
     // Registers the name, by a turn in the site's directory.
-    fn register(&mut self, alloc: Global, site: SiteId, name: &Name) -> Result<(First, Place), Mem>
+    fn register(&mut self, site: SiteId, name: &Name) -> Result<(First, Place), Mem>
         requires served { Contains self.old.served site }
         requires room { self.old.made + 1 < 2 ^ 64 }
         ensures took { IfOk result (λ t. Took (seen_of self.old) (seen_of self.new) (Directory site) (asks.register name.now) (told_of t.0) t.1) }
         ensures err { OnErr result (seen_of self.new ≡ seen_of self.old) }
     {
-        let (registered, place) = wards::register(&mut self.wards, alloc, site, name)?;
+        let (registered, place) = wards::register(&mut self.wards, site, name)?;
         self.made = counted(self.made, place.changed);
         Ok((First::Registered(registered), place))
     }
@@ -195,7 +190,7 @@ impl StillDesk for SoloDesk {
         }
         // No memory is taken for the answer once a turn was made.
         let places = Vec::with_capacity(alloc, 2)?;
-        let (told, first) = self.first_turn(alloc, key, &call)?;
+        let (told, first) = self.first_turn(key, &call)?;
         let (outcome, second) = self.then_cell(alloc, key, &call, load, moment, told)?;
         Ok(answer_of(outcome, places, first, second))
     }

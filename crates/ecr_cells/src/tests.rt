@@ -7,7 +7,7 @@ use ecr_blob_upload::Load;
 use ecr_desk::{Answer, StillDesk};
 use ecr_model::{
     Call, CellKey, Described, Limits, Mem, Moment, Mutability, Name, Page, Place, Refusal, Reply,
-    RepoKey, SiteCall, SiteId, SiteReply, Text,
+    RepoKey, SharedText, SiteCall, SiteId, SiteReply,
 };
 use std::alloc::Global;
 use std::test::Fail;
@@ -25,8 +25,8 @@ fn two_sites(alloc: Global, names: u64) -> Result<SoloDesk, Mem> {
 
 fn site(alloc: Global, region: &[u8]) -> Result<SiteId, Mem> {
     Ok(SiteId {
-        region: Text::copy_of(alloc, region)?,
-        account: Text::copy_of(alloc, b"111122223333")?,
+        region: SharedText::copy_of(alloc, region)?,
+        account: SharedText::copy_of(alloc, b"111122223333")?,
     })
 }
 
@@ -54,7 +54,7 @@ fn made(
         return format!(in alloc; "not served");
     };
     let name = Name {
-        text: Text::copy_of(alloc, name.as_bytes())?,
+        text: SharedText::copy_of(alloc, name.as_bytes())?,
     };
     let answer = desk.call(alloc, &RepoKey { site, name }, call, Load::Nothing, moment)?;
     told(alloc, &answer)
@@ -110,7 +110,7 @@ fn decided(alloc: Global, place: &Place) -> Result<String, Mem> {
     }
 }
 
-fn read(text: &Text) -> &str {
+fn read(text: &SharedText) -> &str {
     str::from_utf8(text.as_bytes()).unwrap_or("no text")
 }
 

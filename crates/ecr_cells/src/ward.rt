@@ -1,17 +1,16 @@
 // What is kept of a site.
-ghost use Rattle.std.specs.Prelude.{◌≡◌, [], false, IfOk, OnOk, OnErr, IsSome};
+ghost use Rattle.std.specs.Prelude.{◌≡◌, [], false, None, IfOk, OnErr};
 ghost use Rattle.ecr_model.specs.declared.journal.CellKey.TheVariants.{Directory, Repository};
 ghost use Rattle.ecr_model.specs.Scripts as asks;
 ghost use Rattle.ecr_model.specs.Scripts.{known, registered, listed, replied};
 ghost use Rattle.ecr_cells.specs.Wards.{room_at, IsQuiet, IsTurn};
 
 use crate::directory::{in_directory, is_new, next_in, reply_to};
-use crate::room::{change, copy_of, copy_of_name, put};
+use crate::room::{Room, change, copy_of, copy_of_name, put};
 use ecr_blob_upload::{Load, Outcome};
 use ecr_model::{
     Call, Limits, Mem, Moment, Name, Place, Registered, RepoKey, SiteCall, SiteId, SiteReply,
 };
-use ecr_repo::RepoState;
 use ecr_site::SiteState;
 use std::alloc::Global;
 use std::collections::BTreeMap;
@@ -23,7 +22,7 @@ use std::marker::Model;
 pub(crate) struct Ward {
     limits: Limits,
     directory: SiteState,
-    rooms: BTreeMap<Name, RepoState>,
+    rooms: BTreeMap<Name, Room>,
 }
 
 impl Model for Ward {
@@ -63,18 +62,13 @@ impl Ward {
     }
 
     /// Registers the name, by a turn in the directory.
-    pub(crate) fn register(
-        &mut self,
-        alloc: Global,
-        site: SiteId,
-        name: &Name,
-    ) -> Result<(Registered, Place), Mem>
+    pub(crate) fn register(&mut self, site: SiteId, name: &Name) -> Result<(Registered, Place), Mem>
         requires { self.old.directory.site ≡ site }
         ensures turned { IfOk result (λ t. IsTurn self.old self.new (Directory site) (asks.register name.now) (registered t.0) t.1) }
         ensures err { OnErr result (self.new ≡ self.old) }
     {
         let ticket = next_in(&self.directory);
-        let registered = self.directory.register(alloc, ticket, 0, name)?;
+        let registered = self.directory.register(ticket, 0, name)?;
         let changed = is_new(registered);
         Ok((registered, in_directory(site, ticket, changed)))
     }
@@ -109,26 +103,14 @@ impl Ward {
         ensures blobs { IfOk result (λ t. t.0.blobs.items ≡ []) }
         ensures err { OnErr result (IsQuiet self.old self.new) }
     {
-        self.make_room(alloc, &key)?;
-        self.change_room(alloc, key, call, load, moment)
-    }
-
-    // Makes room for the name.
-    fn make_room(&mut self, alloc: Global, key: &RepoKey) -> Result<(), Mem>
-        requires { self.old.directory.site ≡ key.now.site }
-        ensures there { OnOk result (IsSome (room_at self.new.rooms key.now.name)) }
-        ensures quiet { IsQuiet self.old self.new }
-    {
-        if self.rooms.contains_key(&key.name) {
-            return Ok(());
+        match self.rooms.get_mut(&key.name) {
+            Some(room) => change(room, alloc, key, call, load, moment),
+            None => self.change_new(alloc, key, call, load, moment),
         }
-        let room = RepoState::new(alloc, copy_of(key)?, self.limits);
-        put(&mut self.rooms, copy_of_name(&key.name)?, room)?;
-        Ok(())
     }
 
-    // Makes a call on a repository that has its room.
-    fn change_room(
+    // Makes a call on a repository that has no room yet, which it gets where there is memory for it and the call.
+    fn change_new(
         &mut self,
         alloc: Global,
         key: RepoKey,
@@ -137,14 +119,15 @@ impl Ward {
         moment: Moment,
     ) -> Result<(Outcome, Place), Mem>
         requires at { self.old.directory.site ≡ key.site }
-        requires there { IsSome (room_at self.old.rooms key.name) }
+        requires absent { room_at self.old.rooms key.name ≡ None }
         ensures turned { IfOk result (λ t. IsTurn self.old self.new (Repository key) (asks.call moment call.now) (replied t.0.reply) t.1) }
         ensures blobs { IfOk result (λ t. t.0.blobs.items ≡ []) }
-        ensures err { OnErr result (IsQuiet self.old self.new) }
+        ensures err { OnErr result (self.new ≡ self.old) }
     {
-        match self.rooms.get_mut(&key.name) {
-            Some(room) => change(room, alloc, key, call, load, moment),
-            None => unreachable!(),
-        }
+        let name = copy_of_name(&key.name)?;
+        let mut room = Room::new(alloc, copy_of(&key)?, self.limits)?;
+        let done = change(&mut room, alloc, key, call, load, moment)?;
+        put(&mut self.rooms, name, room)?;
+        Ok(done)
     }
 }

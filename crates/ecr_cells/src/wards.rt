@@ -67,7 +67,6 @@ pub(crate) fn knows(wards: &Wards, site: SiteId, name: &Name) -> (bool, Place)
 /// Registers the name, by a turn in the site's directory.
 pub(crate) fn register(
     wards: &mut Wards,
-    alloc: Global,
     site: SiteId,
     name: &Name,
 ) -> Result<(Registered, Place), Mem>
@@ -76,7 +75,7 @@ pub(crate) fn register(
     ensures err { OnErr result (Rests wards.old.entries wards.new.entries site) }
 {
     match wards.get_mut(&site) {
-        Some(ward) => ward.register(alloc, site, name),
+        Some(ward) => ward.register(site, name),
         None => unreachable!(),
     }
 }

@@ -62,8 +62,8 @@ fn part_data(
 {
     let id = write_upload_id(alloc, upload)?;
     let mut part = plain_data(alloc, refusal)?;
-    part.put_text("registryId", utf8_or_empty(&key.site.account))?;
-    part.put_text("repositoryName", utf8_or_empty(&key.name.text))?;
+    part.put_text("registryId", utf8_or_empty(key.site.account.as_bytes()))?;
+    part.put_text("repositoryName", utf8_or_empty(key.name.text.as_bytes()))?;
     part.put_text("uploadId", id.as_str())?;
     if received > 0 {
         part.put_whole("lastValidByteReceived", received - 1)?;

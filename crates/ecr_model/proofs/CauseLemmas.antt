@@ -1,5 +1,5 @@
 -- Why a call is answered that there is no such repository.
-use Rattle.std.proofs.Common.{◌≡◌, ◌⊎◌, inl, inr, ℕ, Bool, true, false, List, Option, None, Some, is_some, not, ◌&&◌, [], ◌∷◌, if◌then◌else◌, refl}
+use Rattle.std.proofs.Common.{◌≡◌, ◌⊎◌, inl, inr, ℕ, Bool, true, false, Option, None, Some, is_some, not, ◌&&◌, [], ◌∷◌, if◌then◌else◌, refl}
 use Rattle.std.specs.Option.{option_map_or}
 use Rattle.ecr_model.specs.declared.call.Call.{Call}
 use Rattle.ecr_model.specs.declared.call.Call.TheVariants.{Create, Delete, Describe, SetMutability}
@@ -16,7 +16,7 @@ use Rattle.ecr_model.specs.declared.repository.Repository.{Repository as State}
 use Rattle.ecr_model.specs.Directories as directories
 use Rattle.ecr_model.specs.Journals.{past}
 use Rattle.ecr_model.specs.Requests.{call_script, first_turn, then_cell, cell_turn}
-use Rattle.ecr_model.specs.Scripts.{ends, Realm, World, run, then_do, turn_at, with_line, entered, known, plain_turn, registers}
+use Rattle.ecr_model.specs.Scripts.{ends, Realm, World, run, then_do, turn_at, entered, known, plain_turn, registers}
 use Rattle.ecr_model.specs.ScriptLaws.{NotFoundHasItsCause}
 use Rattle.ecr_model.specs.Steps as steps
 

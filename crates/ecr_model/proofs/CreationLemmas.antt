@@ -1,5 +1,5 @@
 -- A creation that was answered as made is kept.
-use Rattle.std.proofs.Common.{◌≡◌, ℕ, Bool, true, false, List, [], ◌∷◌, ◌++◌, Option, None, Some, is_some, option_map, if◌then◌else◌, refl, sym, ap, ◌∙◌, subst}
+use Rattle.std.proofs.Common.{◌≡◌, ℕ, Bool, true, false, [], ◌∷◌, ◌++◌, Option, None, Some, is_some, option_map, if◌then◌else◌, refl, ap, ◌∙◌}
 use Rattle.ecr_model.specs.declared.call.Call.TheVariants.{Create}
 use Rattle.ecr_model.specs.declared.directory.Registered.{Registered}
 use Rattle.ecr_model.specs.declared.directory.Registered.TheVariants.{New, Known, Full}
@@ -9,14 +9,13 @@ use Rattle.ecr_model.specs.declared.journal.Entry.{Entry}
 use Rattle.ecr_model.specs.declared.names.RepoKey.{RepoKey}
 use Rattle.ecr_model.specs.declared.refusal.Refusal.{Refusal}
 use Rattle.ecr_model.specs.declared.refusal.Refusal.TheVariants.{RepositoryAlreadyExists, LimitExceeded}
-use Rattle.ecr_model.specs.declared.reply.Reply.{Reply}
 use Rattle.ecr_model.specs.declared.reply.Reply.TheVariants.{Created, Refused}
 use Rattle.ecr_model.specs.declared.repository.Mutability.{Mutability}
 use Rattle.ecr_model.specs.declared.repository.Repository.{Repository as State}
 use Rattle.ecr_model.specs.Directories as directories
 use Rattle.ecr_model.specs.Journals.{past}
 use Rattle.ecr_model.specs.Requests.{call_script, first_turn, then_cell, cell_turn}
-use Rattle.ecr_model.specs.Scripts.{ends, Realm, World, Run, run, then_do, turn_at, with_line, entered, plain_turn, registers}
+use Rattle.ecr_model.specs.Scripts.{ends, Realm, World, run, then_do, turn_at, with_line, entered, plain_turn, registers}
 use Rattle.ecr_model.specs.ScriptLaws.{ACreationIsKept}
 use Rattle.ecr_model.specs.Steps as steps
 use Rattle.ecr_model.proofs.CellLemmas.{same_key-self}

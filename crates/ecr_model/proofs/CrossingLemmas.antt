@@ -1,5 +1,5 @@
 -- Which types may cross threads, as a set for `search`.
-use denote.Param.Send.{IsSend, IsSync, sendable}
+use denote.Param.Send.{IsSend, sendable}
 use Rattle.std.proofs.Crossing.{crosses}
 use Rattle.ecr_model.specs.contracts.call.Call as Call
 use Rattle.ecr_model.specs.contracts.directory.Registered as Registered
@@ -17,28 +17,25 @@ use Rattle.ecr_model.specs.contracts.refusal.Refusal as Refusal
 use Rattle.ecr_model.specs.contracts.reply.Described as Described
 use Rattle.ecr_model.specs.contracts.reply.Reply as Reply
 use Rattle.ecr_model.specs.contracts.reply.SiteReply as SiteReply
-use Rattle.ecr_model.specs.contracts.text.Text as Text
+use Rattle.ecr_model.specs.contracts.shared.SharedText as SharedText
 
-pub Text-send : IsSend Text.the_row
-Text-send = search (sendable, crosses) depth 60 fits 20000
-
-pub Text-sync : IsSync Text.the_row
-Text-sync = search (sendable, crosses) depth 60 fits 20000
+pub SharedText-send : IsSend SharedText.the_row
+SharedText-send = search (sendable, crosses) depth 60 fits 20000
 
 pub Digest-send : IsSend Digest.the_row
 Digest-send = search (sendable, crosses) depth 60 fits 20000
 
 pub Name-send : IsSend Name.the_row
-Name-send = search (Text-send, sendable, crosses) depth 60 fits 20000
+Name-send = search (SharedText-send, sendable, crosses) depth 60 fits 20000
 
 pub SiteId-send : IsSend SiteId.the_row
-SiteId-send = search (Text-send, sendable, crosses) depth 60 fits 20000
+SiteId-send = search (SharedText-send, sendable, crosses) depth 60 fits 20000
 
 pub RepoKey-send : IsSend RepoKey.the_row
-RepoKey-send = search (SiteId-send, Name-send, sendable, crosses) depth 60 fits 20000
+RepoKey-send = search (sendable, crosses) depth 60 fits 20000
 
 pub CellKey-send : IsSend CellKey.the_row
-CellKey-send = search (SiteId-send, RepoKey-send, sendable, crosses) depth 60 fits 20000
+CellKey-send = search (sendable, crosses) depth 60 fits 20000
 
 pub Limits-send : IsSend Limits.the_row
 Limits-send = search (sendable, crosses) depth 60 fits 20000
@@ -47,16 +44,16 @@ pub Call-send : IsSend Call.the_row
 Call-send = search (sendable, crosses) depth 60 fits 20000
 
 pub Act-send : IsSend Act.the_row
-Act-send = search (Call-send, Name-send, Digest-send, SiteId-send, sendable, crosses) depth 60 fits 20000
+Act-send = search (Digest-send, SiteId-send, sendable, crosses) depth 60 fits 20000
 
 pub Entry-send : IsSend Entry.the_row
-Entry-send = search (Act-send, sendable, crosses) depth 60 fits 20000
+Entry-send = search (sendable, crosses) depth 60 fits 20000
 
 pub Line-send : IsSend Line.the_row
-Line-send = search (Entry-send, sendable, crosses) depth 60 fits 20000
+Line-send = search (sendable, crosses) depth 60 fits 20000
 
 pub Place-send : IsSend Place.the_row
-Place-send = search (CellKey-send, sendable, crosses) depth 60 fits 20000
+Place-send = search (sendable, crosses) depth 60 fits 20000
 
 pub Registered-send : IsSend Registered.the_row
 Registered-send = search (sendable, crosses) depth 60 fits 20000
@@ -65,12 +62,12 @@ pub Refusal-send : IsSend Refusal.the_row
 Refusal-send = search (Digest-send, sendable, crosses) depth 60 fits 20000
 
 pub Described-send : IsSend Described.the_row
-Described-send = search (Name-send, sendable, crosses) depth 60 fits 20000
+Described-send = search (sendable, crosses) depth 60 fits 20000
 
 pub Reply-send : IsSend Reply.the_row
-Reply-send = search (Described-send, Refusal-send, sendable, crosses) depth 60 fits 20000
+Reply-send = search (Described-send, sendable, crosses) depth 60 fits 20000
 
 pub SiteReply-send : IsSend SiteReply.the_row
-SiteReply-send = search (Name-send, Refusal-send, sendable, crosses) depth 60 fits 20000
+SiteReply-send = search (Name-send, sendable, crosses) depth 60 fits 20000
 
-pub ruleset crossing = (Text-send, Text-sync, Digest-send, Name-send, SiteId-send, RepoKey-send, CellKey-send, Limits-send, Call-send, Act-send, Entry-send, Line-send, Place-send, Registered-send, Refusal-send, Described-send, Reply-send, SiteReply-send)
+pub ruleset crossing = (SharedText-send, Digest-send, Name-send, SiteId-send, RepoKey-send, CellKey-send, Limits-send, Call-send, Act-send, Entry-send, Line-send, Place-send, Registered-send, Refusal-send, Described-send, Reply-send, SiteReply-send)

@@ -1,5 +1,5 @@
 -- The first request of the example, read and answered.
-use Rattle.std.proofs.Common.{lit≤, ◌≡◌, ℕ, zero, suc, ◌<◌, ◌⊎◌, Bool, true, false, List, [], ◌∷◌, ◌++◌, take, drop, Some, None, codes, append-nil, if◌then◌else◌, refl, sym, ap, ◌∙◌, ⊎_elim, subst, arith}
+use Rattle.std.proofs.Common.{◌≡◌, ℕ, zero, suc, ◌<◌, ◌⊎◌, Bool, true, false, List, [], ◌∷◌, ◌++◌, take, drop, Some, None, codes, append-nil, if◌then◌else◌, refl, sym, ap, ◌∙◌, ⊎_elim, subst, arith}
 use Rattle.std.specs.Str.Lossy.{utf8_valid_len}
 use Rattle.std.specs.Str.{is_utf8, chars, IsAscii}
 use Rattle.std.specs.Fmt.{digits}
@@ -11,9 +11,8 @@ use Rattle.serde_json.proofs.OnLiterals.{serde_json_on_literals}
 use Rattle.ecr_model.specs.Framing.{max_head, ends_empty, IsEnd, Parses, framing_of, max_body, waits, says_close}
 use Rattle.ecr_model.specs.declared.http.Head.{Head}
 use Rattle.ecr_model.specs.declared.http.Framing.TheVariants.{Sized}
-use Rattle.ecr_model.specs.Fields.{has_close}
 use Rattle.ecr_model.specs.Stream.{complete, IsBody, whole, short, open_, head_part, IsFront, Point, Stops}
-use Rattle.ecr_model.specs.Sessions.{outcome_of, written, left_by, replies}
+use Rattle.ecr_model.specs.Sessions.{outcome_of, written, replies}
 use Rattle.ecr_model.specs.Hosts.{site_for, named_site, without_port}
 use Rattle.ecr_model.specs.Actions.{asks, cell, reading, action_of, members_of, typed_reading, asked_by}
 use Rattle.ecr_model.specs.Directories.{after_line, first_directory, registration}

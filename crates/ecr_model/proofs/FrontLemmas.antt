@@ -6,7 +6,7 @@ use Rattle.ecr_model.specs.declared.http.Head.{Head}
 use Rattle.ecr_model.specs.declared.http.Framing.{Framing}
 use Rattle.ecr_model.specs.declared.http.Framing.TheVariants.{Sized, Chunked}
 use Rattle.ecr_model.specs.declared.http.Request.{Request}
-use Rattle.ecr_model.specs.Framing.{max_head, max_body, ends_empty, IsEnd, HasNoEnd, EndsAt, Parses, framing_of, waits}
+use Rattle.ecr_model.specs.Framing.{max_head, max_body, ends_empty, IsEnd, HasNoEnd, EndsAt, Parses, framing_of}
 pub use Rattle.ecr_model.specs.Fronts.{is_settled_lack, is_settled_body}
 use Rattle.ecr_model.specs.Stream.{bad, too_long, open_, Front, whole, short, BodyFront, complete, lacks, request_of, head_part, sized_front, IsBody, with_body, IsFramed, IsHeaded, ParsesTo, IsFront}
 use Rattle.ecr_model.proofs.ChunkLemmas.{IsChunked-unique, IsChunked-append, IsChunked-length}

@@ -1,8 +1,8 @@
 -- The laws of journals.
-use Rattle.std.proofs.Common.{◌≡◌, ◌≤◌, ◌<◌, ℕ, suc, Bool, true, false, List, [], ◌∷◌, ◌++◌, All, Option, None, Some, unwrap_or, filter, nat_lt, append-nil, refl, sym, ap, ◌∙◌, subst, arith}
+use Rattle.std.proofs.Common.{◌≡◌, ◌≤◌, ℕ, suc, List, [], ◌∷◌, ◌++◌, All, Option, Some, unwrap_or, nat_lt, append-nil, refl, ap, ◌∙◌, subst, arith}
 use Rattle.std.proofs.lemmas.List.Elements.{filter-append, All-head, All-tail}
 use Rattle.ecr_model.specs.declared.journal.Line.{Line}
-use Rattle.ecr_model.specs.Journals.{past_from, past, below, replay, IsSoundFrom, IsSound, state_at}
+use Rattle.ecr_model.specs.Journals.{past_from, past, below, replay, IsSoundFrom}
 use Rattle.ecr_model.specs.JournalLaws.{ReplayGoesOn, AFirstPartIsSound, ASoundJournalGrows, WhatWasStays, TheLastIsNow}
 
 module _ {S : Type 0} (after : S → Line → Option S) where

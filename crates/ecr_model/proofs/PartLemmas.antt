@@ -1,12 +1,12 @@
 -- From what is known of a chunked body's bytes to what stands at their front, and to the body.
-use Rattle.std.proofs.Common.{◌≡◌, ℕ, zero, suc, ◌+◌, ◌<◌, ◌≤◌, min, List, [], ◌∷◌, ◌++◌, length, take, drop, Option, Some, None, nat_lt, nat_le, if◌then◌else◌, refl, sym, ap, ap₂, ◌∙◌, subst, arith, length-append, append-nil}
+use Rattle.std.proofs.Common.{◌≡◌, ℕ, zero, suc, ◌+◌, ◌<◌, ◌≤◌, min, List, [], ◌∷◌, ◌++◌, length, take, drop, Some, None, refl, sym, ap, ap₂, ◌∙◌, subst, arith}
 use Rattle.std.proofs.Math.Seq.{take-append_seam, drop-append_seam}
 use Rattle.std.proofs.lemmas.Bool.{lt-ltb, le-ltb, le-leb, lt-leb}
 use Rattle.std.proofs.lemmas.List.{drop-drop, drop_all}
 use Rattle.ecr_model.specs.Framing.{IsEnd, HasNoEnd}
-use Rattle.ecr_model.specs.Fronts.{Lack, bad, too_long, open_, BodyFront, complete, lacks}
-use Rattle.ecr_model.specs.Chunks.{max_chunk_line, max_trailers, line_end, Says, Part, chunk, last_chunk, lacking, if_crlf, chunk_of, if_within, last_of, IsSaid, IsPart, Progress, begun, past_chunk, Comes, Chunks, front_of, IsChunked}
-use Rattle.ecr_model.proofs.ChunkLemmas.{IsPart-by, Chunks-length}
+use Rattle.ecr_model.specs.Fronts.{Lack, bad, too_long, open_, complete, lacks}
+use Rattle.ecr_model.specs.Chunks.{max_chunk_line, max_trailers, line_end, Says, Part, chunk, last_chunk, lacking, if_crlf, chunk_of, if_within, IsSaid, IsPart, Progress, begun, past_chunk, Comes, Chunks, IsChunked}
+use Rattle.ecr_model.proofs.ChunkLemmas.{IsPart-by}
 
 -- ---- the line
 

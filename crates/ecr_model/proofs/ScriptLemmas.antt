@@ -1,9 +1,8 @@
 -- The laws of scripts and their runs.
-use Rattle.std.proofs.Common.{◌≡◌, ◌≤◌, ◌<◌, ℕ, zero, suc, ◌+◌, ◌-◌, List, [], ◌∷◌, ◌++◌, Option, None, Some, refl, sym, ap, ◌∙◌, subst, arith}
+use Rattle.std.proofs.Common.{◌≡◌, ◌≤◌, ℕ, zero, suc, ◌+◌, ◌-◌, ◌∷◌, Option, None, Some, refl, sym, ap, ◌∙◌, subst, arith}
 use Rattle.ecr_model.specs.declared.journal.CellKey.{CellKey}
 use Rattle.ecr_model.specs.declared.journal.Entry.{Entry}
-use Rattle.ecr_model.specs.declared.journal.Place.{Place}
-use Rattle.ecr_model.specs.Scripts.{Ask, Told, Script, ends, turn, then_do, Realm, World, Turned, Run, run, run_to, next_turn, entered, place_of, count_of, in_front}
+use Rattle.ecr_model.specs.Scripts.{Ask, Told, Script, ends, turn, then_do, Realm, World, Turned, run, run_to, next_turn, entered, place_of, count_of}
 use Rattle.ecr_model.specs.ScriptLaws.{RunsThen}
 
 pub run-then_do : {A B : Type 0} (realm : Realm) (world : World) (script : Script A) (next : A → Script B) → RunsThen realm world script next

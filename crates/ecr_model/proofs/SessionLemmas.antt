@@ -1,11 +1,10 @@
 -- One more request of a session, and what the bytes that were read decide.
-use Rattle.std.proofs.Common.{◌≡◌, ℕ, List, [], ◌∷◌, ◌++◌, length, map, Option, Some, None, refl, sym, ap, ◌∙◌, subst, arith, append_assoc, append-nil}
-use Rattle.std.specs.Io.KnownBytes.{Appends, Keeps}
+use Rattle.std.proofs.Common.{◌≡◌, ℕ, List, [], ◌∷◌, ◌++◌, length, refl, sym, ap, ◌∙◌, arith, append_assoc, append-nil}
 use Rattle.ecr_model.specs.declared.http.Request.{Request}
 use Rattle.ecr_model.specs.declared.outcome.Cut.{Cut}
 use Rattle.ecr_model.specs.declared.journal.Place.{Place}
 use Rattle.ecr_model.specs.Scripts.{Realm, World}
-use Rattle.ecr_model.specs.Sessions.{answer_to, left_by, replies, left_after, Counts, AreCuts, AreMoments, IsPlaced, ArePlaces}
+use Rattle.ecr_model.specs.Sessions.{answer_to, left_by, replies, left_after, Counts, AreCuts, IsPlaced, ArePlaces}
 
 -- ---- one more request, over lists of moments
 

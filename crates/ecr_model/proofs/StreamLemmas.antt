@@ -1,12 +1,12 @@
 -- Points of a stream, the requests between them, and what follows them.
-use Rattle.std.proofs.Common.{◌≡◌, ℕ, zero, suc, ◌+◌, ◌<◌, ◌≤◌, Bool, true, false, cond, ◌==◌, List, [], ◌∷◌, ◌++◌, length, take, drop, Option, Some, None, if◌then◌else◌, refl, sym, ap, ◌∙◌, subst, ap₂, ⊎_elim, arith, length-append, length-drop, append-nil}
+use Rattle.std.proofs.Common.{◌≡◌, ℕ, zero, suc, ◌+◌, ◌<◌, ◌≤◌, Bool, true, false, cond, ◌==◌, List, [], ◌∷◌, ◌++◌, length, drop, Some, None, if◌then◌else◌, refl, sym, ap, ◌∙◌, subst, ap₂, ⊎_elim, arith, length-drop, append-nil}
 use Rattle.std.proofs.lemmas.Bool.{cond-false, ne_eqb, cases_lt}
-use Rattle.std.proofs.lemmas.List.{drop-append-le, take-append-le, drop_all}
+use Rattle.std.proofs.lemmas.List.{drop-append-le, drop_all}
 use Rattle.std.proofs.lemmas.List.Sums.{prefix_len-le-length}
 use Rattle.std.proofs.lemmas.List.Folds.{prefix_len-append}
 use Rattle.ecr_model.specs.declared.http.Request.{Request}
 use Rattle.ecr_model.specs.Framing.{max_head}
-use Rattle.ecr_model.specs.Stream.{is_blank, blank_length, Lack, bad, too_long, open_, Front, whole, short, IsFront, Point, start, grown, past_blank, Meets, AwaitsBody, closes, past, Begins, Ending, ended, closed, truncated, bad_at, long_at, more, Tail, ending_of, tail_of, Lacks, StopsBy, Stops, Reads}
+use Rattle.ecr_model.specs.Stream.{is_blank, blank_length, Lack, bad, too_long, open_, Front, whole, short, IsFront, Point, start, grown, past_blank, Meets, AwaitsBody, closes, past, Begins, Ending, ended, truncated, Tail, ending_of, tail_of, Lacks, StopsBy, Stops}
 use Rattle.ecr_model.specs.StreamLaws.{is_last, RequestsAreDetermined, AnEndStays, ACutChangesNothing}
 use Rattle.ecr_model.proofs.FramingLemmas.{IsEnd-append, IsEnd-positive}
 use Rattle.ecr_model.proofs.FrontLemmas.{is_settled, is_settled_lack, IsFront-nil, IsFront-unique, IsFront-whole_length, IsFront-append, Parses-append}

@@ -1,5 +1,5 @@
 -- Some bodies as they are read, and some replies as they are written.
-use Rattle.std.specs.Prelude.{◌≡◌, ℕ, List, [], ◌∷◌, ◌++◌, Bool, true, false, Option, None, Some, codes}
+use Rattle.std.specs.Prelude.{◌≡◌, ℕ, List, [], ◌∷◌, ◌++◌, true, false, None, Some, codes}
 use Rattle.ecr_model.specs.declared.call.Call.TheVariants.{Create, Delete, SetMutability}
 use Rattle.ecr_model.specs.declared.names.Name.{Name}
 use Rattle.ecr_model.specs.declared.names.RepoKey.{RepoKey}
@@ -9,7 +9,7 @@ use Rattle.ecr_model.specs.declared.refusal.Refusal.{Refusal}
 use Rattle.ecr_model.specs.declared.refusal.Refusal.TheVariants.{InvalidParameter, InvalidLayerPart, LimitExceeded, UnknownOperation, Serialization}
 use Rattle.ecr_model.specs.declared.reply.Reply.TheVariants as replies
 use Rattle.ecr_model.specs.declared.repository.Mutability.TheVariants.{Mutable, Immutable}
-use Rattle.ecr_model.specs.Actions.{Asked, Reading, asks, refuses, cell, many, reading, service}
+use Rattle.ecr_model.specs.Actions.{Reading, asks, refuses, cell, many, reading, service}
 use Rattle.ecr_model.specs.Refusals.{refusal_body}
 use Rattle.ecr_model.specs.Rendered.{json}
 use Rattle.ecr_model.specs.Texts.{crlf}

@@ -10,7 +10,7 @@ use Rattle.ecr_model.specs.declared.outcome.End.TheVariants as ends
 use Rattle.ecr_model.specs.Sites.{site_word, IsSite}
 use Rattle.ecr_model.specs.Limits.{standard}
 use Rattle.ecr_model.specs.Scripts.{World, fresh}
-use Rattle.ecr_model.specs.Sessions.{Outside, Account, Setting, Serves}
+use Rattle.ecr_model.specs.Sessions.{Outside, Setting, Serves}
 
 -- the words of a clock that stands still, where it does
 abbrev pub clock_words : Option ℕ → List (List ℕ)

@@ -1,6 +1,6 @@
 -- Directories: the names of a site. Of this registry: docs/DECISIONS.md, "Directories". Names are in the order of their
 -- bytes, and places among them count from 0.
-use Rattle.std.specs.Prelude.{◌≡◌, ℕ, ◌+◌, Bool, nat_lt, nat_le, List, [], Option, None, Some, length, take, drop, if◌then◌else◌, bytes_eq}
+use Rattle.std.specs.Prelude.{ℕ, ◌+◌, Bool, nat_lt, List, [], Option, None, Some, length, take, drop, if◌then◌else◌, bytes_eq}
 use Rattle.std.specs.BTreeSet.{insert_key}
 use Rattle.std.specs.Cmp.Lexicographic.{slice_cmp}
 use Rattle.std.specs.List.{list_any}

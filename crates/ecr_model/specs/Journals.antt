@@ -1,6 +1,6 @@
 -- Journals: a cell's lines in order, and the state that they lead to. Of this registry: docs/DECISIONS.md, "Journals".
 -- Tickets count from 0.
-use Rattle.std.specs.Prelude.{◌≡◌, ◌≤◌, ℕ, suc, nat_lt, List, [], ◌∷◌, Option, None, Some, filter, unwrap_or}
+use Rattle.std.specs.Prelude.{◌≡◌, ◌≤◌, ℕ, suc, nat_lt, List, [], ◌∷◌, Option, Some, filter, unwrap_or}
 use Rattle.ecr_model.specs.declared.journal.Line.{Line}
 
 -- one more than the last ticket, or the low one where there is no line

@@ -1,6 +1,6 @@
 -- What is said of a refusal (Amazon ECR API Reference, "Common Errors" and the actions' errors): its `__type` and its
 -- message, which is of this registry, as JSON. Keys stand in byte order.
-use Rattle.std.specs.Prelude.{ℕ, List, [], ◌∷◌, ◌++◌, Option, None, Some, codes, decimal, nat_lt, ◌-◌, if◌then◌else◌}
+use Rattle.std.specs.Prelude.{ℕ, List, [], ◌∷◌, ◌++◌, Option, Some, codes, decimal, nat_lt, ◌-◌, if◌then◌else◌}
 use Rattle.serde_json.specs.Data.{Data, number, unsigned, string, object, Members, member, no_members}
 use Rattle.serde_json.specs.Written.{compact_text}
 use Rattle.ecr_model.specs.declared.names.Digest.{Digest}

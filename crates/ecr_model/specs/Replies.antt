@@ -1,5 +1,5 @@
 -- Replies as bytes (RFC 9112, sections 4 and 6; RFC 9110, sections 9.3.2 and 15). Headers stand in byte order.
-use Rattle.std.specs.Prelude.{ℕ, Bool, List, [], ◌++◌, ◌==◌, length, codes, decimal, if◌then◌else◌, bytes_eq}
+use Rattle.std.specs.Prelude.{ℕ, Bool, List, [], ◌++◌, ◌==◌, codes, decimal, if◌then◌else◌, bytes_eq}
 use Rattle.ecr_model.specs.declared.http.Request.{Request}
 use Rattle.ecr_model.specs.Texts.{crlf}
 use Rattle.ecr_model.specs.Framing.{max_head}

@@ -1,5 +1,5 @@
 -- The scripts of requests (Amazon ECR API Reference, "Actions"): in which cells a call is decided, and in which order.
-use Rattle.std.specs.Prelude.{◌≡◌, ℕ, ◌+◌, Bool, true, false, not, List, [], ◌∷◌, ◌++◌, length, Option, None, Some, if◌then◌else◌}
+use Rattle.std.specs.Prelude.{ℕ, ◌+◌, Bool, true, false, List, [], ◌∷◌, ◌++◌, length, Option, None, Some, if◌then◌else◌}
 use Rattle.ecr_model.specs.declared.call.Call.{Call}
 use Rattle.ecr_model.specs.declared.call.Call.TheVariants.{Create, Delete, Describe, SetMutability}
 use Rattle.ecr_model.specs.declared.call.Page.{Page}

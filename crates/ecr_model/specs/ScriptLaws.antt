@@ -1,5 +1,5 @@
 -- What holds of scripts, whatever they do.
-use Rattle.std.specs.Prelude.{◌≡◌, ◌⊎◌, ℕ, ◌+◌, false, List, [], ◌∷◌, ◌++◌, None}
+use Rattle.std.specs.Prelude.{◌≡◌, ◌⊎◌, ℕ, ◌+◌, false, [], ◌∷◌, ◌++◌, None}
 use Rattle.ecr_model.specs.declared.call.Call.{Call}
 use Rattle.ecr_model.specs.declared.call.Call.TheVariants.{Create}
 use Rattle.ecr_model.specs.declared.journal.CellKey.TheVariants.{Directory, Repository}
@@ -10,7 +10,7 @@ use Rattle.ecr_model.specs.declared.repository.Mutability.{Mutability}
 use Rattle.ecr_model.specs.Directories.{directory_at, is_registered}
 use Rattle.ecr_model.specs.Journals.{past}
 use Rattle.ecr_model.specs.Requests.{call_script}
-use Rattle.ecr_model.specs.Scripts.{Script, then_do, Realm, World, Run, run, plain_turn}
+use Rattle.ecr_model.specs.Scripts.{Script, then_do, Realm, World, run, plain_turn}
 use Rattle.ecr_model.specs.Steps.{line_of, repository_at}
 
 -- the run of a script and then another is the one run and then the other

@@ -1,6 +1,6 @@
 -- What a request does: turns in cells, one after another, each of which tells something, and then an answer. Of this
 -- registry: docs/DECISIONS.md, "Scripts". Tickets count from 0; moments are in seconds.
-use Rattle.std.specs.Prelude.{ℕ, zero, suc, ◌+◌, ◌-◌, Bool, true, false, List, [], ◌∷◌, ◌++◌, Option, None, Some, is_some, if◌then◌else◌, ◌&&◌, bytes_eq, option_map}
+use Rattle.std.specs.Prelude.{ℕ, zero, suc, ◌+◌, ◌-◌, Bool, false, List, [], ◌∷◌, ◌++◌, Option, None, Some, is_some, if◌then◌else◌, ◌&&◌, bytes_eq, option_map}
 use Rattle.ecr_model.specs.declared.call.Call.{Call}
 use Rattle.ecr_model.specs.declared.call.SiteCall.{SiteCall}
 use Rattle.ecr_model.specs.declared.directory.Directory.{Directory}

@@ -1,7 +1,6 @@
 -- What a session writes, and how it ends.
-use Rattle.std.specs.Prelude.{◌≡◌, ℕ, ◌^◌, ◌<◌, ◌≤◌, ◌==◌, ◌⊎◌, Bool, true, false, List, [], ◌∷◌, ◌++◌, length, map, Option, None, Some, if◌then◌else◌}
+use Rattle.std.specs.Prelude.{◌≡◌, ℕ, ◌^◌, ◌<◌, ◌≤◌, ◌⊎◌, Bool, true, false, List, [], ◌∷◌, ◌++◌, length, map, Option, None, Some, if◌then◌else◌}
 use Rattle.std.specs.Io.KnownBytes.{Consumes, Appends, Keeps, IsAtEnd}
-use Rattle.ecr_model.specs.declared.http.Head.{Head}
 use Rattle.ecr_model.specs.declared.http.Request.{Request}
 use Rattle.ecr_model.specs.declared.journal.Place.{Place}
 use Rattle.ecr_model.specs.declared.outcome.Cut.{Cut}
@@ -12,7 +11,7 @@ use Rattle.ecr_model.specs.Framing.{waits}
 use Rattle.ecr_model.specs.Stream.{Point, start, head_part, closes, Begins, Reads, Ending, Tail, ended, closed, truncated, bad_at, long_at, more, AwaitsBody}
 use Rattle.ecr_model.specs.Posed.{posed_of, posed_script, posed_bytes}
 use Rattle.ecr_model.specs.Replies.{failed_reply, continue_reply, interim, bad_reply, long_reply, is_head}
-use Rattle.ecr_model.specs.Scripts.{Realm, World, fresh, Script, Run, run, run_to}
+use Rattle.ecr_model.specs.Scripts.{Realm, World, Script, Run, run, run_to}
 
 -- the turns of a request, at that moment
 abbrev pub script_of : Realm → ℕ → Request → Script Reply

@@ -1,5 +1,5 @@
 // Cells and their journals.
-use crate::{Call, Digest, Listed, Moment, Name, RepoKey, SiteId};
+use crate::{Call, Digest, Listed, Moment, Name, Rare, RepoKey, SiteId};
 
 /// A part of the registry that has a journal of its own.
 #[derive(Drop)]
@@ -43,7 +43,7 @@ pub enum Act {
         /// Those to which a push is copied; none of another call.
         destinations: Listed<SiteId>,
         /// The digest of all parts of a completed upload; none of another call.
-        sealed: Option<Digest>,
+        sealed: Rare<Digest>,
     },
     /// The name was registered in the directory.
     Register(Name),

@@ -18,9 +18,11 @@ mod listed;
 mod manifest;
 mod names;
 mod outcome;
+mod rare;
 mod refusal;
 mod reply;
 mod repository;
+mod shared;
 mod text;
 mod twin;
 
@@ -48,12 +50,14 @@ pub use listed::Listed;
 pub use manifest::{Descriptor, Facts, ManifestFault};
 pub use names::{CopyId, Digest, MAX_MOMENT, Moment, Name, RepoKey, SiteId, Tag};
 pub use outcome::{Cut, End};
+pub use rare::Rare;
 pub use refusal::{ConfigurationFault, Parameter, Refusal};
 pub use reply::{Described, Reply, SiteReply};
 pub use repository::{
     CopyRecord, CopyState, CopyStatus, Layer, Mutability, Presence, Preview, Repository,
     UploadState,
 };
+pub use shared::SharedText;
 pub use std::alloc::AllocError as Mem;
 pub use text::Text;
 pub use twin::Twin;

@@ -5,7 +5,7 @@ ghost use Rattle.std.specs.Cmp.{on_equiv, on_per, on_po, on_total, partial_equiv
 ghost use Rattle.std.specs.Cmp.Lexicographic.{slice_cmp, nat_list_eq_equiv, nat_list_cmp_total, texts_po, texts_ties};
 ghost use Rattle.std.specs.Ordering.{nat_cmp};
 
-use crate::{Text, Twin};
+use crate::{SharedText, Text, Twin};
 use std::cmp::Ordering;
 
 /// A moment: whole seconds since 1970-01-01T00:00:00Z, at most [`MAX_MOMENT`].
@@ -17,7 +17,7 @@ pub const MAX_MOMENT: u64 = 253_402_300_799;
 /// A repository's name: the text of it, well formed or not. Names are in the order of their bytes.
 #[derive(Clone, Drop)]
 pub struct Name {
-    pub text: Text,
+    pub text: SharedText,
 }
 
 /// A tag (OCI Distribution 1.1, "Pulling manifests", `<reference>` as a tag): the text of it, well formed or not.
@@ -30,9 +30,9 @@ pub struct Tag {
 #[derive(Clone, Drop, PartialEq, Eq, PartialOrd, Ord)]
 pub struct SiteId {
     /// As `us-east-1`.
-    pub region: Text,
+    pub region: SharedText,
     /// Twelve digits.
-    pub account: Text,
+    pub account: SharedText,
 }
 
 /// A repository: a name at a site.

@@ -6,7 +6,7 @@ ghost use Rattle.ecr_repo.specs.States.{AnswersOnly, Fits, turn_at, reply_to, ch
 
 use crate::cell::Cell;
 use ecr_blob_upload::{Load, Outcome};
-use ecr_model::{Act, Call, Entry, Limits, Line, Listed, Mem, Moment, RepoKey, SiteId};
+use ecr_model::{Act, Call, Entry, Limits, Line, Listed, Mem, Moment, Rare, RepoKey, SiteId};
 use std::alloc::Global;
 use std::marker::Model;
 
@@ -93,7 +93,7 @@ impl RepoState {
         ensures err { OnErr result (self.new ≡ self.old) }
     {
         // All memory is taken before anything changes.
-        self.journal.reserve(1)?;
+        make_room(&mut self.journal)?;
         let line = line_of(ticket, caller, call.clone()?, destinations, moment);
         let outcome = self.cell.change(alloc, &self.key, call, moment)?;
         enter(&mut self.journal, outcome.changed, line);
@@ -120,9 +120,21 @@ fn line_of(ticket: u64, caller: u64, call: Call, destinations: Vec<SiteId>, mome
             act: Act::Called {
                 call,
                 destinations: Listed::from_vec(destinations),
-                sealed: None,
+                sealed: Rare::none(),
             },
         },
+    }
+}
+
+// Takes the room for one more line. Most names have few, so the first line has room for itself alone.
+fn make_room(journal: &mut Vec<Line>) -> Result<(), Mem>
+    ensures room { OnOk result (vec_len journal.new < vec_capacity journal.new) }
+    ensures kept { journal.new.items ≡ journal.old.items }
+{
+    if journal.is_empty() {
+        journal.reserve_exact(1)
+    } else {
+        journal.reserve(1)
     }
 }
 

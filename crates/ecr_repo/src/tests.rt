@@ -4,8 +4,8 @@ ghost use Rattle.ecr_model.specs.Journals.{past};
 use crate::RepoState;
 use ecr_blob_upload::{Load, Outcome};
 use ecr_model::{
-    Call, Described, Limits, Line, Mem, Moment, Mutability, Name, Refusal, Reply, RepoKey, SiteId,
-    Text,
+    Call, Described, Limits, Line, Mem, Moment, Mutability, Name, Refusal, Reply, RepoKey,
+    SharedText, SiteId,
 };
 use std::alloc::Global;
 use std::mem::size_of;
@@ -66,11 +66,11 @@ fn app(alloc: Global) -> Result<RepoState, Mem>
     ensures { IfOk result (λ s. s.journal ≡ []) }
 {
     let site = SiteId {
-        region: Text::copy_of(alloc, b"us-east-1")?,
-        account: Text::copy_of(alloc, b"111122223333")?,
+        region: SharedText::copy_of(alloc, b"us-east-1")?,
+        account: SharedText::copy_of(alloc, b"111122223333")?,
     };
     let name = Name {
-        text: Text::copy_of(alloc, b"team/app")?,
+        text: SharedText::copy_of(alloc, b"team/app")?,
     };
     Ok(RepoState::new(alloc, RepoKey { site, name }, Limits::standard()))
 }
@@ -153,6 +153,6 @@ fn a_repository_comes_and_goes(rt: HostRuntime) -> Result<(), Fail> {
 
 #[test]
 fn an_entry_is_small(rt: HostRuntime) -> Result<(), Fail> {
-    assert_eq!(rt; size_of::<Line>(), 96);
+    assert_eq!(rt; size_of::<Line>(), 72);
     Ok(())
 }

@@ -1,5 +1,5 @@
 // Calls on a desk, whose places are kept. The room for a place is taken before its turn.
-ghost use Rattle.std.specs.Prelude.{◌≡◌, Contains, IfOk, OnErr};
+ghost use Rattle.std.specs.Prelude.{◌≡◌, ◌++◌, Contains, IfOk, OnErr, OnOk};
 ghost use Rattle.ecr_model.specs.Requests.{call_script, site_script};
 ghost use Rattle.ecr_session.specs.Turns.{RanWith, StoppedWith};
 
@@ -22,9 +22,9 @@ pub(crate) fn call_at<D: StillDesk>(
     ensures ran { IfOk result (λ r. RanWith (D.seen desk.old) (D.seen desk.new) (call_script key.now call moment) r places.old.items places.new.items) }
     ensures stopped { OnErr result (StoppedWith (D.seen desk.old) (D.seen desk.new) (call_script key.now call moment) places.old.items places.new.items) }
 {
-    places.reserve(2)?;
-    let mut answer = desk.call(alloc, key, call, load, moment)?;
-    places.append(&mut answer.places)?;
+    make_room(places)?;
+    let answer = desk.call(alloc, key, call, load, moment)?;
+    put_behind(places, answer.places)?;
     Ok(answer.reply)
 }
 
@@ -44,4 +44,29 @@ pub(crate) fn site_at<D: StillDesk>(
     let answer = desk.registry(alloc, site, call)?;
     places.push_reserved(answer.place);
     Ok(answer.reply)
+}
+
+// Takes the room for two more places, where some are there; else the desk's own list of them becomes theirs.
+fn make_room(places: &mut Vec<Place>) -> Result<(), Mem>
+    ensures { places.new.items ≡ places.old.items }
+{
+    if places.is_empty() {
+        Ok(())
+    } else {
+        places.reserve(2)
+    }
+}
+
+// Puts these places behind those before them.
+fn put_behind(places: &mut Vec<Place>, more: Vec<Place>) -> Result<(), Mem>
+    ensures ok { OnOk result (places.new.items ≡ places.old.items ++ more.items) }
+    ensures err { OnErr result (places.new.items ≡ places.old.items) }
+{
+    let mut more = more;
+    if places.is_empty() {
+        *places = more;
+        Ok(())
+    } else {
+        places.append(&mut more)
+    }
 }

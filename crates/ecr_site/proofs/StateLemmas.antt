@@ -1,21 +1,23 @@
 -- The laws of a site's journal.
-use Rattle.std.proofs.Common.{◌≡◌, ◌≤◌, ◌+◌, ◌∷◌, ◌++◌, ◌||◌, ◌∙◌, ℕ, suc, List, [], Some, unwrap_or, refl, sym, ap, arith, bytes_eq}
+use Rattle.std.proofs.Common.{◌≡◌, ◌<◌, ◌≤◌, ◌+◌, ◌∷◌, ◌++◌, ◌||◌, ◌∙◌, ℕ, suc, Bool, not, true, false, cond, nat_lt, List, [], length, Some, unwrap_or, refl, sym, ap, arith, bytes_eq}
 use Rattle.std.specs.BTreeMap.{is_at}
 use Rattle.std.specs.BTreeSet.{insert_key}
 use Rattle.std.specs.List.{list_any}
+use Rattle.std.proofs.lemmas.Bool.{cond-true, cond-false, cond_both, lt-ltb, le-ltb, both_ways}
 use Rattle.std.proofs.lemmas.Bool.Decides.{same_from_decides, Decides-like}
 use Rattle.std.proofs.lemmas.Map.Text.{is_eq-slice_cmp}
 use Rattle.std.proofs.lemmas.Slice.Eq.{bytes_eq-Decides}
 use Rattle.ecr_model.specs.declared.directory.Directory.{Directory}
-use Rattle.ecr_model.specs.declared.directory.Registered.TheVariants.{New}
+use Rattle.ecr_model.specs.declared.directory.Registered.{Registered}
+use Rattle.ecr_model.specs.declared.directory.Registered.TheVariants.{New, Known, Full}
 use Rattle.ecr_model.specs.declared.journal.Limits.{Limits}
 use Rattle.ecr_model.specs.declared.journal.Line.{Line}
 use Rattle.ecr_model.specs.declared.names.Name.{Name}
-use Rattle.ecr_model.specs.Directories.{name_order, first_directory, registration, registered, with_name, after_line, replay, line_of}
+use Rattle.ecr_model.specs.Directories.{name_order, first_directory, is_registered, registration, registered, with_name, after_line, replay, line_of}
 use Rattle.ecr_model.specs.Journals as journals
 use Rattle.ecr_model.specs.Journals.{past_from, past}
 use Rattle.ecr_model.proofs.JournalLemmas.{replay_goes_on, a_sound_journal_grows}
-use Rattle.ecr_site.specs.States.{SiteJournal, with_line, IsKept}
+use Rattle.ecr_site.specs.States.{SiteJournal, directory_of, with_line, entered, after_register, IsKept}
 
 -- the order of the two doesn't matter
 bytes_eq-swap : (a b : List ℕ) → bytes_eq a b ≡ bytes_eq b a
@@ -32,6 +34,44 @@ list_any-name_order name (n ∷ ns) = λ i. (is_eq-slice_cmp name.text n.text �
 pub IsKept-first : (limits : Limits) → IsKept limits [] []
 unfolding first_directory journals.replay journals.IsSoundFrom
 IsKept-first limits = record { sound = tt; same = refl }
+
+-- the names in order answer as the journal's do
+pub is_at-registered : (s : SiteJournal) (names : List Name) (name : Name) → IsKept s.limits s.journal names
+    → list_any (is_at (name_order name)) names ≡ is_registered name (directory_of s)
+is_at-registered s names name kept =
+    list_any-name_order name names ∙ ap (λ ns. list_any (λ n. bytes_eq n.text name.text) ns) kept.same
+
+-- ---- what becomes of a name
+
+-- what was not added was there, and what was added was not
+pub was_there : (there added : Bool) → added ≡ not there → added ≡ false → there ≡ true
+was_there true added p q = refl
+was_there false added p q = absurd (both_ways added q p)
+
+pub was_not_there : (there added : Bool) → added ≡ not there → added ≡ true → there ≡ false
+was_not_there false added p q = refl
+was_not_there true added p q = absurd (both_ways added p q)
+
+pub registration-known : (limits : Limits) (d : Directory) (name : Name) → is_registered name d ≡ true → registration limits d name ≡ Known
+unfolding registration
+registration-known limits d name known = cond-true (is_registered name d) _ _ known
+
+pub registration-new : (limits : Limits) (d : Directory) (name : Name) → is_registered name d ≡ false → length d.names < limits.names → registration limits d name ≡ New
+unfolding registration
+registration-new limits d name unknown below =
+    cond-false (is_registered name d) _ _ unknown
+    ∙ cond-true (nat_lt (length d.names) limits.names) _ _ (lt-ltb (length d.names) limits.names below)
+
+-- where the limit is reached no line is entered
+pub after_register-beyond : (s : SiteJournal) (ticket caller : ℕ) (name : Name) → s.limits.names ≤ length (directory_of s).names → after_register s ticket caller name ≡ s
+unfolding registration
+after_register-beyond s ticket caller name full =
+    let d : Directory = directory_of s in
+    let line : Line = line_of ticket caller name in
+    let over : Registered = Full s.limits.names (length d.names) in
+    cond_both (is_registered name d) Known (cond (nat_lt (length d.names) s.limits.names) New over) (λ r. entered r s line ≡ s)
+    (λ known. refl)
+    (λ unknown. ap (λ b. entered (cond b New over) s line) (le-ltb (length d.names) s.limits.names full))
 
 -- what the line of a new name makes of the directory
 after_line-line_of : (limits : Limits) (d : Directory) (ticket caller : ℕ) (name : Name) → registration limits d name ≡ New → after_line limits d (line_of ticket caller name) ≡ Some (with_name name d)

@@ -1,11 +1,11 @@
 // A site's directory, and its changes.
-ghost use Rattle.std.specs.Prelude.{◌≡◌, ◌≤◌, ◌+◌, [], IfOk, OnErr, OnOk, length, take, drop};
+ghost use Rattle.std.specs.Prelude.{◌≡◌, ◌<◌, ◌≤◌, ◌+◌, [], IfOk, OnErr, OnOk, length, take, drop};
 ghost use Rattle.ecr_model.specs.Directories.{is_registered, line_of, names_of, IsSound};
 ghost use Rattle.ecr_model.specs.Journals.{past};
 ghost use Rattle.ecr_model.specs.declared.directory.Registered.TheVariants.{New};
 ghost use Rattle.ecr_site.specs.States.{after_register, directory_of, registration_in, with_line};
 
-use ecr_model::{Act, Entry, Limits, Line, Mem, Name, Registered, SiteId, Text};
+use ecr_model::{Act, Entry, Limits, Line, Mem, Name, Registered, SiteId};
 use std::alloc::Global;
 use std::collections::BTreeSet;
 use std::marker::Model;
@@ -78,13 +78,7 @@ impl SiteState {
     /// reached. After an `Err` the directory is as before.
     ///
     /// The ticket is above all in the journal.
-    pub fn register(
-        &mut self,
-        alloc: Global,
-        ticket: u64,
-        caller: u64,
-        name: &Name,
-    ) -> Result<Registered, Mem>
+    pub fn register(&mut self, ticket: u64, caller: u64, name: &Name) -> Result<Registered, Mem>
         requires later { past self.old.journal ≤ ticket }
         ensures exact { IfOk result (λ r. r ≡ registration_in self.old name.now) }
         ensures entered { OnOk result (self.new ≡ after_register self.old ticket caller name.now) }
@@ -93,53 +87,55 @@ impl SiteState {
         // So any later ticket is above all again.
         ensures below { past self.new.journal ≤ ticket + 1 }
     {
-        let registered = self.registration(name);
-        if registered == Registered::New {
-            self.enter(alloc, ticket, caller, name)?;
+        if self.count() < self.limits.names {
+            self.enter(ticket, caller, name)
+        } else {
+            Ok(self.beyond(name))
         }
-        Ok(registered)
     }
 
-    /// What becomes of the name, if it is to be registered now.
+    /// What becomes of the name where the limit is reached: it is known, or one too many.
     #[tactic(auto, unfolding(ecr_model::specs::Directories::registration))]
-    fn registration(&self, name: &Name) -> Registered
+    fn beyond(&self, name: &Name) -> Registered
+        requires { self.now.limits.names ≤ length (directory_of self.now).names }
         ensures { result ≡ registration_in self.now name.now }
     {
         if self.knows(name) {
-            return Registered::Known;
-        }
-        let count = self.count();
-        let limit = self.limits.names;
-        if count < limit {
-            Registered::New
+            Registered::Known
         } else {
-            Registered::Full { limit, count }
+            Registered::Full {
+                limit: self.limits.names,
+                count: self.count(),
+            }
         }
     }
 
-    /// Enters the line of a new name.
-    fn enter(&mut self, alloc: Global, ticket: u64, caller: u64, name: &Name) -> Result<(), Mem>
+    /// Enters the line of the name, where it is new. The limit isn't reached.
+    fn enter(&mut self, ticket: u64, caller: u64, name: &Name) -> Result<Registered, Mem>
         requires later { past self.old.journal ≤ ticket }
-        requires new { registration_in self.old name.now ≡ New }
-        ensures ok { OnOk result (self.new ≡ with_line self.old (line_of ticket caller name.now)) }
+        requires below { length (directory_of self.old).names < self.old.limits.names }
+        ensures exact { IfOk result (λ r. r ≡ registration_in self.old name.now) }
+        ensures entered { OnOk result (self.new ≡ after_register self.old ticket caller name.now) }
         ensures err { OnErr result (self.new ≡ self.old) }
+        ensures last { past self.new.journal ≤ ticket + 1 }
     {
         self.journal.reserve(1)?;
-        let told = copy_of(alloc, name)?;
-        let kept = copy_of(alloc, name)?;
-        // The last step that may fail; where it does, the set is as before.
-        self.names.insert(kept)?;
+        let told = copy_of(name)?;
+        let kept = copy_of(name)?;
+        // The last step that may fail; where it does, or the name is known, the set is as before.
+        if !self.names.insert(kept)? {
+            return Ok(Registered::Known);
+        }
         self.journal.push_reserved(line_of(ticket, caller, told));
-        Ok(())
+        Ok(Registered::New)
     }
 }
 
 /// A copy of the name.
-fn copy_of(alloc: Global, name: &Name) -> Result<Name, Mem>
+fn copy_of(name: &Name) -> Result<Name, Mem>
     ensures { IfOk result (λ copy. copy ≡ name.now) }
 {
-    let text = Text::copy_of(alloc, name.text.as_bytes())?;
-    Ok(Name { text })
+    name.clone()
 }
 
 /// The line that a registration enters.
@@ -162,7 +158,7 @@ fn page_of(alloc: Global, names: &BTreeSet<Name>, from: usize, max: usize) -> Re
 {
     let mut page = Vec::new(alloc);
     for name in names.iter().skip(from).take(max) {
-        page.push(copy_of(alloc, name)?)?;
+        page.push(copy_of(name)?)?;
     }
     Ok(page)
 }

@@ -2,7 +2,7 @@ ghost use Rattle.std.specs.Prelude.{◌≡◌, ◌≤◌, [], IfOk};
 ghost use Rattle.ecr_model.specs.Journals.{past};
 
 use crate::{Registered, SiteState};
-use ecr_model::{Limits, Name, SiteId, Text};
+use ecr_model::{Limits, Name, SharedText, SiteId};
 use std::alloc::{AllocError, Global};
 use std::test::Fail;
 
@@ -11,8 +11,8 @@ fn names_are_registered_up_to_the_limit(rt: HostRuntime) -> Result<(), Fail> {
     let alloc = rt.alloc();
     let mut state = two_names(alloc)?;
     assert_eq!(rt; state.entries(), 2);
-    let third = state.register(alloc, 6, 0, &named(alloc, "c1")?)?;
-    let second = state.register(alloc, 7, 0, &named(alloc, "a1")?)?;
+    let third = state.register(6, 0, &named(alloc, "c1")?)?;
+    let second = state.register(7, 0, &named(alloc, "a1")?)?;
     assert_eq!(rt; third, Registered::Full { limit: 2, count: 2 });
     assert_eq!(rt; second, Registered::Known);
     assert_eq!(rt; (state.entries(), state.count()), (2, 2));
@@ -61,7 +61,7 @@ fn scrambled(alloc: Global) -> Result<SiteState, AllocError> {
     for turn in 0..1000_u64 {
         let text = format!(in alloc; "a{}", turn * 7 % 1000)?;
         let name = named(alloc, text.as_str())?;
-        state.register(alloc, turn, 0, &name)?;
+        state.register(turn, 0, &name)?;
     }
     Ok(state)
 }
@@ -71,8 +71,8 @@ fn two_names(alloc: Global) -> Result<SiteState, AllocError>
     ensures { IfOk result (λ s. past s.journal ≤ 6) }
 {
     let mut state = state(alloc, 2)?;
-    state.register(alloc, 3, 40, &named(alloc, "b1")?)?;
-    state.register(alloc, 5, 41, &named(alloc, "a1")?)?;
+    state.register(3, 40, &named(alloc, "b1")?)?;
+    state.register(5, 41, &named(alloc, "a1")?)?;
     Ok(state)
 }
 
@@ -81,8 +81,8 @@ fn state(alloc: Global, names: u64) -> Result<SiteState, AllocError>
     ensures { IfOk result (λ s. s.journal ≡ []) }
 {
     let site = SiteId {
-        region: Text::copy_of(alloc, b"us-east-1")?,
-        account: Text::copy_of(alloc, b"111122223333")?,
+        region: SharedText::copy_of(alloc, b"us-east-1")?,
+        account: SharedText::copy_of(alloc, b"111122223333")?,
     };
     let mut limits = Limits::standard();
     limits.names = names;
@@ -90,7 +90,7 @@ fn state(alloc: Global, names: u64) -> Result<SiteState, AllocError>
 }
 
 fn named(alloc: Global, text: &str) -> Result<Name, AllocError> {
-    let text = Text::copy_of(alloc, text.as_bytes())?;
+    let text = SharedText::copy_of(alloc, text.as_bytes())?;
     Ok(Name { text })
 }
 

@@ -8,7 +8,7 @@ ghost use Rattle.ecr_turn.specs.Passes.{IsSamePass, no_frame};
 ghost use Rattle.ecr_turn.specs.Register.{value_of};
 
 use crate::{Journal, Pass, Turnstile};
-use ecr_model::{Act, Call, Entry, Line, Listed, Mem};
+use ecr_model::{Act, Call, Entry, Line, Listed, Mem, Rare};
 use std::alloc::Global;
 use std::marker::Model;
 use std::sync::Wait;
@@ -71,7 +71,7 @@ impl Register {
                 act: Act::Called {
                     call: Call::Describe,
                     destinations: Listed::new(*self.lines.allocator()),
-                    sealed: None,
+                    sealed: Rare::none(),
                 },
             },
         }

@@ -4,7 +4,7 @@ ghost use Rattle.ecr_turn.specs.Passes.{no_frame};
 
 use crate::register::{Register, get, set};
 use crate::{Journal, Pass, Turnstile};
-use ecr_model::{Act, Call, Entry, Line, Listed, Mem};
+use ecr_model::{Act, Call, Entry, Line, Listed, Mem, Rare};
 use std::alloc::Global;
 use std::sync::Wait;
 use std::test::Fail;
@@ -34,7 +34,7 @@ impl Log {
         let act = Act::Called {
             call: Call::Describe,
             destinations: Listed::new(*self.lines.allocator()),
-            sealed: None,
+            sealed: Rare::none(),
         };
         let entry = Entry { moment: 0, act };
         match self.lines.push(Line {

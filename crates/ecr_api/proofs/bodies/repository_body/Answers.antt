@@ -1,7 +1,6 @@
-use Rattle.std.proofs.Common.{◌≡◌, ◌∙◌, [], ◌∷◌, ◌++◌, codes, ap, ap₂}
+use Rattle.std.proofs.Common.{◌≡◌, ◌∙◌, ℕ, List, [], ◌∷◌, ◌++◌, codes, ap, ap₂}
 use Rattle.json.specs.Token as token
 use Rattle.serde_json.specs.Data.{Data, object, member, no_members}
-use Rattle.ecr_model.specs.declared.names.Name.{Name}
 use Rattle.ecr_model.specs.declared.names.RepoKey.{RepoKey}
 use Rattle.ecr_model.specs.declared.names.SiteId.{SiteId}
 use Rattle.ecr_model.specs.Rendered.{key_asked, repository_data}
@@ -19,7 +18,7 @@ returns c =
     let t3 = c.end_object.new.self.tokens in
     let key = key_asked (meaning c.args.asked.now) in
     let repository : Data = repository_data key c.args.created c.args.mutability in
-    let pair : SiteId → Name → RepoKey = λ s n. record { site = s; name = n } in
+    let pair : SiteId → List ℕ → RepoKey = λ s n. record { site = s; name = record { text = n } } in
     let same : pair c.site_asked.result.now c.name_asked.result.now ≡ key = ap₂ pair c.site_asked.ensures.of_key c.name_asked.ensures in
     let e0 : t0 ≡ old ++ token.begin_object ∷ [] = c.in_ok-begin_object.ensures.ok in
     let e1 : t1 ≡ t0 ++ token.key (codes "repository") ∷ [] = c.in_ok-key.ensures.ok in

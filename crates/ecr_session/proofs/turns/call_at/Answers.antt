@@ -2,12 +2,12 @@ use Rattle.std.proofs.Common.{◌∙◌}
 use Rattle.ecr_session.proofs.TurnLemmas.{OnErr-always, StoppedWith-call, StoppedWith-nothing, StoppedWith-unheard}
 use Rattle.ecr_session.proofs.turns.call_at.Goals as goal
 
-pub returns-in_err-reserve-clause-stopped : goal.returns-in_err-reserve-clause-stopped
-returns-in_err-reserve-clause-stopped g c = OnErr-always _ _ (StoppedWith-nothing _ _ _ _ c.reserve.ensures.items)
+pub returns-in_err-make_room-clause-stopped : goal.returns-in_err-make_room-clause-stopped
+returns-in_err-make_room-clause-stopped g c = OnErr-always _ _ (StoppedWith-nothing _ _ _ _ c.make_room.ensures)
 
 pub returns-in_err-answer-clause-stopped : goal.returns-in_err-answer-clause-stopped
-returns-in_err-answer-clause-stopped g c = OnErr-always _ _ (StoppedWith-call _ _ _ _ _ _ _ c.reserve.ensures.items c.in_err-answer.ensures.stopped)
+returns-in_err-answer-clause-stopped g c = OnErr-always _ _ (StoppedWith-call _ _ _ _ _ _ _ c.make_room.ensures c.in_err-answer.ensures.stopped)
 
-pub returns-in_err-append-clause-stopped : goal.returns-in_err-append-clause-stopped
-returns-in_err-append-clause-stopped g c =
-    OnErr-always _ _ (StoppedWith-unheard _ _ _ _ _ _ _ (c.in_err-append.ensures.items ∙ c.reserve.ensures.items) c.in_ok-answer.ensures.ran)
+pub returns-in_err-put_behind-clause-stopped : goal.returns-in_err-put_behind-clause-stopped
+returns-in_err-put_behind-clause-stopped g c =
+    OnErr-always _ _ (StoppedWith-unheard _ _ _ _ _ _ _ (c.in_err-put_behind.ensures.err ∙ c.make_room.ensures) c.in_ok-answer.ensures.ran)

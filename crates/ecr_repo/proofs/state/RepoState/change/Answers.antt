@@ -13,7 +13,7 @@ invariant_of-self-2 c =
     let entry : c.line_of-line.result ≡ line_of c.args.caller turn c.args.call.now = grind arith in
     let later : past c.self.inside.journal.items ≤ c.args.ticket =
     subst (λ (s : State). past s.journal ≤ c.args.ticket) (sym c.self.view_is) c.requires.later in
-    rw (c.enter.ensures, c.in_ok-reserve.ensures.items, done.changed, done.leaves, entry)
+    rw (c.enter.ensures, c.make_room.ensures.kept, done.changed, done.leaves, entry)
     (IsKept-called c.self.inside.key c.self.inside.limits c.self.inside.journal.items c.self.inside.cell c.args.caller turn
     c.args.call.now c.self.invariant later)
 

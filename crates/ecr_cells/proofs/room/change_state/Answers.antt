@@ -9,7 +9,7 @@ use Rattle.ecr_repo.specs.States.{State, turn_at, reply_to, changes, after_call}
 use Rattle.ecr_cells.specs.Wards.{IsRoomTurn, room_now}
 use Rattle.ecr_cells.proofs.RoomLemmas.{IsRoomTurn-call, Fits-bare}
 use Rattle.ecr_cells.proofs.WardLemmas.{numbered-after}
-use Rattle.ecr_cells.proofs.room.change.Goals as goal
+use Rattle.ecr_cells.proofs.room.change_state.Goals as goal
 
 pub change-requires-clause-fits : goal.change-requires-clause-fits
 change-requires-clause-fits c = Fits-bare c.args.call.now c.args.load c.new-nowhere.result.items c.new-nowhere.ensures.items
