@@ -6,9 +6,9 @@ use Rattle.std.proofs.KnownBytes.{Consumes-nil, Consumes-trans, Consumes-kept}
 use Rattle.std.specs.Io.KnownBytes.{Consumes, Keeps}
 use Rattle.ecr_model.specs.declared.http.Framing.TheVariants.{Sized}
 use Rattle.ecr_model.specs.Sessions.{max_read}
-use Rattle.ecr_model.specs.Stream.{IsBody, complete, lacks, open_}
+use Rattle.ecr_model.specs.Stream.{IsBody, complete}
 use Rattle.ecr_model.proofs.FrontLemmas.{IsBody-sized, IsBody-sized_open}
-use Rattle.ecr_http.specs.Bodies.{IsGot, Gathers, IsLess, IsPartial, Shows, Bodies}
+use Rattle.ecr_http.specs.Bodies.{IsGot, Gathers, IsLess, IsPartial, Bodies}
 use Rattle.ecr_http.specs.Takings.{lengthened, Gains, IsStop}
 use Rattle.ecr_http.specs.declared.body.Taken.TheVariants as takens
 use Rattle.ecr_http.specs.declared.intake.Intake.{Intake}

@@ -1,29 +1,29 @@
 -- What is given for what stands at the front of the bytes that come.
-use Rattle.std.proofs.Common.{Vec, Global, ◌≡◌, ℕ, ◌+◌, ◌<◌, ◌≤◌, ◌==◌, ◌&&◌, inl, inr, ⊎_elim, codes, nat_lt, Bool, true, false, List, [], ◌++◌, length, take, drop, Option, Some, None, if◌then◌else◌, refl, sym, ap, ap₂, ◌∙◌, subst, subst₂, arith, length-append, length-drop, append-nil, append_assoc}
+use Rattle.std.proofs.Common.{Vec, Global, ◌≡◌, ℕ, ◌+◌, ◌<◌, ◌≤◌, ◌==◌, ◌&&◌, inl, inr, ⊎_elim, codes, nat_lt, Bool, true, false, List, [], ◌++◌, length, take, drop, Option, Some, None, refl, sym, ap, ap₂, ◌∙◌, subst, subst₂, arith, length-append, length-drop, append-nil, append_assoc}
 use Rattle.std.proofs.lemmas.Bool.{ne_eqb, lt-leb, cases_lt}
 use Rattle.std.specs.Option.{option_map_or}
 use Rattle.std.proofs.lemmas.List.{drop-append-le}
 use Rattle.std.proofs.KnownBytes.{Appends-nil, Consumes-trans, Consumes-nil}
-use Rattle.std.specs.Io.KnownBytes.{Appends, IsAtEnd}
+use Rattle.std.specs.Io.KnownBytes.{Appends}
 use Rattle.ecr_model.specs.declared.http.Framing.{Framing}
 use Rattle.ecr_model.specs.declared.http.Framing.TheVariants.{Sized, Chunked}
 use Rattle.ecr_model.specs.Fields.{first_says}
 use Rattle.ecr_model.specs.declared.http.Head.{Head}
 use Rattle.ecr_model.specs.declared.http.Request.{Request}
 use Rattle.ecr_model.specs.Framing.{max_head, max_body, IsEnd, Parses, framing_of, is_sent, waits}
-use Rattle.ecr_model.specs.Replies.{continue_reply, interim}
+use Rattle.ecr_model.specs.Replies.{interim}
 use Rattle.ecr_model.specs.Sessions.{max_read, is_waiting}
 use Rattle.ecr_model.specs.Stream.{blank_length, Lack, bad, too_long, open_, BodyFront, complete, lacks, IsBody, with_body, Front, whole, short, IsFront, Point, grown, past_blank, Meets, AwaitsBody, past, closes, Tail, Lacks, tail_of, ended, truncated, bad_at, long_at, more, request_of}
 use Rattle.ecr_model.proofs.FramingLemmas.{IsEnd-append, IsEnd-positive}
 use Rattle.ecr_model.proofs.FrontLemmas.{Parses-append, IsBody-length, IsBody-sized_long, IsFront-nil, IsFront-long, IsFront-no_grammar, IsFront-body, IsFront-unframed, IsFront-whole_length}
 use Rattle.ecr_model.proofs.StreamLemmas.{blank_length-le, blank_length-drop, blank_length-append}
-use Rattle.ecr_http.specs.Bodies.{FitsLimit, IsGot, IsPartial, Bodies}
+use Rattle.ecr_http.specs.Bodies.{FitsLimit, IsPartial, Bodies}
 use Rattle.ecr_http.specs.Events.{closes_after, point_of, Fronts, HasHead, Behind}
 use Rattle.ecr_http.specs.Leads.{IsReady, IsRead, Leads}
 use Rattle.ecr_http.specs.Sends.{Sends}
 use Rattle.ecr_http.specs.declared.lead.Lead.TheVariants as leads
 use Rattle.ecr_http.specs.declared.write.Sent.TheVariants.{WriteFault}
-use Rattle.ecr_http.specs.Reading.{Shows, MayTell, Gives, Nexts}
+use Rattle.ecr_http.specs.Reading.{MayTell, Gives, Nexts}
 use Rattle.ecr_http.specs.Takings.{IsStop}
 use Rattle.ecr_http.specs.declared.body.Taken.TheVariants as takens
 use Rattle.ecr_http.specs.declared.events.Event.{Event}

@@ -1,10 +1,10 @@
 -- How a head is read: blank bytes are passed, and more bytes come.
-use Rattle.std.proofs.Common.{◌≡◌, ℕ, zero, suc, ◌+◌, ◌<◌, ◌≤◌, Bool, true, false, cond, List, [], ◌∷◌, ◌++◌, length, drop, get_or, Option, refl, sym, ap, ◌∙◌, subst, arith, length-append, length-drop, append-nil, append_assoc}
+use Rattle.std.proofs.Common.{◌≡◌, ℕ, zero, suc, ◌+◌, ◌<◌, ◌≤◌, true, false, cond, List, [], ◌∷◌, ◌++◌, length, drop, get_or, Option, refl, sym, ap, ◌∙◌, subst, arith, length-append, length-drop, append-nil, append_assoc}
 use Rattle.std.proofs.lemmas.List.{at_drop_more, drop-append-le}
 use Rattle.std.proofs.Math.Seq.{drop-nil}
 use Rattle.std.proofs.KnownBytes.{Consumes-nil, Consumes-trans, Consumes-kept}
 use Rattle.std.specs.Io.KnownBytes.{Consumes, Keeps}
-use Rattle.ecr_model.specs.Framing.{max_head, ends_empty, HasNoEnd}
+use Rattle.ecr_model.specs.Framing.{ends_empty, HasNoEnd}
 use Rattle.ecr_model.specs.Sessions.{max_read}
 use Rattle.ecr_model.specs.Stream.{is_blank, blank_length}
 use Rattle.ecr_model.proofs.FramingLemmas.{HasNoEnd-append}

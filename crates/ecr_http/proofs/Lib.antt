@@ -4,5 +4,6 @@ pub mod SendLemmas
 pub mod ReplyLemmas
 pub mod LeadLemmas
 pub mod BodyLemmas
+pub mod BufferLemmas
 pub mod DecodingLemmas
 pub mod EventLemmas

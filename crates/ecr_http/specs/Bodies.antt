@@ -1,5 +1,5 @@
 -- How far a body was read, and what was found. Sizes are in bytes.
-use Rattle.std.specs.Prelude.{◌≡◌, ℕ, ◌+◌, ◌<◌, ◌≤◌, List, ◌++◌, length, drop, Option, None, Some, ⊤}
+use Rattle.std.specs.Prelude.{◌≡◌, ℕ, ◌+◌, ◌<◌, ◌≤◌, List, ◌++◌, length, drop, Option, ⊤}
 use Rattle.std.specs.Io.KnownBytes.{Consumes}
 use Rattle.ecr_model.specs.declared.http.Framing.{Framing}
 use Rattle.ecr_model.specs.declared.http.Framing.TheVariants.{Sized, Chunked}

@@ -1,13 +1,12 @@
 -- What is given at the front of the bytes that come. Places and sizes are in bytes.
 use Rattle.std.specs.Prelude.{◌≡◌, ℕ, ◌+◌, ◌<◌, ◌≤◌, Bool, true, false, List, [], ◌++◌, length, take, drop, Option, Some, ⊤}
-use Rattle.std.specs.Io.KnownBytes.{Consumes, Appends, IsAtEnd}
+use Rattle.std.specs.Io.KnownBytes.{Consumes, IsAtEnd}
 use Rattle.ecr_model.specs.declared.http.Head.{Head}
 use Rattle.ecr_model.specs.declared.http.Framing.{Framing}
 use Rattle.ecr_model.specs.Framing.{max_head, max_body, IsEnd, Parses, framing_of}
 use Rattle.ecr_model.specs.Sessions.{max_read, is_waiting}
 use Rattle.ecr_model.specs.Stream.{Point, bad, too_long, open_, whole, short, IsFront, closes}
 use Rattle.ecr_http.specs.Leads.{IsReady}
-use Rattle.ecr_http.specs.Reading.{Nexts}
 use Rattle.ecr_http.specs.declared.intake.Intake.{Intake}
 use Rattle.ecr_http.specs.declared.events.Event.{Event}
 use Rattle.ecr_http.specs.declared.events.Event.TheVariants as events

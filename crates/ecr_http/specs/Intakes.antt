@@ -1,8 +1,16 @@
 -- What is taken from a source. Sizes are in bytes.
-use Rattle.std.specs.Prelude.{◌≡◌, ℕ, ◌+◌, ◌<◌, ◌≤◌, List, ◌++◌, length, Option, None, Some, ⊤}
+use Rattle.std.specs.Prelude.{◌≡◌, ℕ, ◌≤◌, List, ◌++◌, length, take, drop, Option, ⊤}
 use Rattle.std.specs.Io.KnownBytes.{Consumes, Keeps, IsAtEnd}
 use Rattle.ecr_outside.specs.declared.source.Got.{Got}
 use Rattle.ecr_outside.specs.declared.source.Got.TheVariants.{Bytes, End, Failed}
+
+-- the bytes from the place `start` up to the place `end`
+abbrev pub range : ℕ → ℕ → List ℕ → List ℕ
+range start end bytes = drop start (take end bytes)
+
+-- both are places in the bytes, in this order
+abbrev pub IsRange : ℕ → ℕ → List ℕ → Type 0
+IsRange start end bytes = (start ≤ end) × (end ≤ length bytes)
 
 -- at least one byte, and no more than there is room for
 abbrev pub HasRoom : Got → ℕ → Type 0

@@ -1,6 +1,6 @@
 -- What one call of a reader takes from the source, tells the client and gives. A reader is seen as a point of the stream
 -- of all bytes of its source; where it is closed, it isn't used again.
-use Rattle.std.specs.Prelude.{◌≡◌, ℕ, ◌+◌, ◌⊎◌, Bool, true, false, List, [], ◌++◌, length, Option}
+use Rattle.std.specs.Prelude.{◌≡◌, ℕ, ◌+◌, ◌⊎◌, Bool, true, false, List, [], length, Option}
 use Rattle.std.specs.Io.KnownBytes.{Consumes, Appends, IsAtEnd}
 use Rattle.ecr_model.specs.Replies.{continue_reply, interim}
 use Rattle.ecr_model.specs.Sessions.{max_read, is_waiting}

@@ -1,5 +1,5 @@
 // The bytes that were read and not yet used.
-ghost use Rattle.std.specs.Prelude.{◌≡◌, ◌≤◌, ◌<◌, ◌++◌, [], List, ℕ, length, take, drop, OnOk, OnErr, IfOk};
+ghost use Rattle.std.specs.Prelude.{◌≡◌, ◌+◌, ◌≤◌, ◌<◌, ◌++◌, [], List, ℕ, length, take, drop, OnOk, OnErr, IfOk};
 ghost use Rattle.std.specs.Io.KnownBytes.{Keeps};
 ghost use Rattle.ecr_outside.specs.Source.{Gives, HasCause};
 ghost use Rattle.ecr_http.specs.Intakes.{Fills, HasRoom};
@@ -10,23 +10,26 @@ use std::alloc::Global;
 use std::marker::Model;
 
 /// The most bytes that one read asks for.
-pub(crate) const PIECE: usize = 32_768;
+pub(crate) const PIECE: usize = 65_536;
 
-/// Bytes that come at the end and go at the front, seen as the list of those that are left.
+/// Bytes that come at the end and go at the front, seen as the list of those that are left. They stand in room that is
+/// written once when it is taken, and used again.
 #[derive(Drop)]
 pub struct Buffer {
-    bytes: Vec<u8>,
+    room: Vec<u8>,
     start: usize,
+    end: usize,
 }
 
 impl Model for Buffer {
-    ghost use Rattle.std.specs.Prelude.{◌≤◌, List, ℕ, length, drop};
+    ghost use Rattle.std.specs.Prelude.{List, ℕ};
+    ghost use Rattle.ecr_http.specs.Intakes.{IsRange, range};
 
     ghost Value = { List ℕ };
 
-    ghost view = { λ b. drop b.start b.bytes.items };
+    ghost view = { λ b. range b.start b.end b.room.items };
 
-    ghost invariant = { λ b. b.start ≤ length b.bytes.items };
+    ghost invariant = { λ b. IsRange b.start b.end b.room.items };
 }
 
 impl Buffer {
@@ -35,8 +38,9 @@ impl Buffer {
         ensures { result ≡ [] }
     {
         Buffer {
-            bytes: Vec::new(alloc),
+            room: Vec::new(alloc),
             start: 0,
+            end: 0,
         }
     }
 
@@ -44,14 +48,14 @@ impl Buffer {
     pub fn as_slice(&self) -> &[u8]
         ensures { result.now ≡ self.now }
     {
-        &self.bytes[self.start..]
+        &self.room[self.start..self.end]
     }
 
     /// How many bytes are left.
     pub fn len(&self) -> usize
         ensures { result ≡ length self.now }
     {
-        self.bytes.len() - self.start
+        self.end - self.start
     }
 
     /// Drops the first `count` bytes.
@@ -75,11 +79,11 @@ impl Buffer {
         Ok(())
     }
 
-    /// Reads once from the source, at most `most` bytes. The room for them is taken first: without memory nothing is
-    /// read.
+    /// Reads once from the source, at most `most` bytes, to where they stay until they go. The room for them is taken
+    /// first: without memory nothing is read.
     pub fn fill<S: Source>(&mut self, source: &mut S, most: usize) -> Result<Got, Mem>
         requires some { 0 < most }
-        requires within { most ≤ 32768 }
+        requires within { most ≤ 65536 }
         ensures filled { IfOk result (Fills most (S.left source.old) self.old (S.left source.new) self.new) }
         ensures mem { OnErr result (Keeps (S.left source.old) (S.left source.new)) }
         ensures kept { OnErr result (self.new ≡ self.old) }
@@ -87,27 +91,51 @@ impl Buffer {
         ensures cause { IfOk result (HasCause (S.faults source.old) (S.faults source.new)) }
     {
         self.close_gap();
-        self.bytes.reserve(most)?;
-        let mut piece = [0; PIECE];
-        let got = read_some(source, &mut piece, most);
+        make_room(&mut self.room, self.end, most)?;
+        let got = read_at(source, &mut self.room, self.end, most);
         if let Got::Bytes(n) = got {
-            match self.bytes.extend_from_slice(&piece[..n]) {
-                Ok(()) => {}
-                Err(_) => unreachable!(),
-            }
+            self.end += n;
         }
         Ok(got)
     }
 
-    // Gives back the room of the bytes that were dropped; what is left is moved at most once for each of them.
+    // Moves what is left to the front, each byte at most once for each time that bytes were dropped.
     fn close_gap(&mut self)
         ensures { self.new ≡ self.old }
     {
         if self.start > 0 {
-            remove_front(&mut self.bytes, self.start);
+            self.room.copy_within(self.start..self.end, 0);
+            self.end -= self.start;
             self.start = 0;
         }
     }
+}
+
+// Takes room for `most` more bytes behind the first `end`. What stands behind them says nothing.
+fn make_room(room: &mut Vec<u8>, end: usize, most: usize) -> Result<(), Mem>
+    requires { (end ≤ length room.old.items) × (most ≤ 65536) }
+    ensures room { OnOk result (end + most ≤ length room.new.items) }
+    ensures long { length room.old.items ≤ length room.new.items }
+    ensures kept { take end room.new.items ≡ take end room.old.items }
+{
+    if room.len() - end >= most {
+        return Ok(());
+    }
+    room.resize(end + most, 0)
+}
+
+// Reads at most `most` bytes into the room, behind the first `end`.
+fn read_at<S: Source>(source: &mut S, room: &mut Vec<u8>, end: usize, most: usize) -> Got
+    requires some { 0 < most }
+    requires within { end + most ≤ length room.old.items }
+    ensures count { HasRoom result most }
+    ensures long { length room.new.items ≡ length room.old.items }
+    ensures kept { take end room.new.items ≡ take end room.old.items }
+    ensures bytes { Gives (S.left source.old) (S.left source.new) (drop end room.new.items) result }
+    ensures later { S.faults source.old ≤ S.faults source.new }
+    ensures cause { HasCause (S.faults source.old) (S.faults source.new) result }
+{
+    read_some(source, &mut room[end..], most)
 }
 
 // Reads at most `most` bytes into the front of the piece.
@@ -121,13 +149,4 @@ fn read_some<S: Source>(source: &mut S, piece: &mut [u8], most: usize) -> Got
     ensures cause { HasCause (S.faults source.old) (S.faults source.new) result }
 {
     source.read(&mut piece[..most])
-}
-
-fn remove_front(bytes: &mut Vec<u8>, count: usize)
-    requires { count ≤ length bytes.old.items }
-    ensures { bytes.new.items ≡ drop count bytes.old.items }
-{
-    let left = bytes.len() - count;
-    bytes.copy_within(count.., 0);
-    bytes.truncate(left);
 }

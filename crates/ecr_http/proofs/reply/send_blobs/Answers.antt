@@ -1,4 +1,4 @@
-use Rattle.std.proofs.Common.{◌≡◌, sym, ap, ◌∙◌, subst, get_or, arith}
+use Rattle.std.proofs.Common.{subst, arith}
 use Rattle.std.specs.Io.KnownBytes.{Appends}
 use Rattle.ecr_http.specs.declared.write.Sent.TheVariants.{WriteFault}
 use Rattle.ecr_http.specs.Sends.{Sends}

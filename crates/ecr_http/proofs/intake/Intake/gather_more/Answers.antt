@@ -1,6 +1,4 @@
-use Rattle.std.proofs.Common.{◌≡◌, ◌+◌, ℕ, length, subst, sym, ap}
-use Rattle.ecr_http.specs.Bodies.{IsLess}
-use Rattle.ecr_http.specs.Takings.{IsStop}
+use Rattle.std.proofs.Common.{◌≡◌, ◌+◌, length, ap}
 use Rattle.ecr_http.specs.declared.intake.Intake.{Intake}
 use Rattle.ecr_http.proofs.BodyLemmas.{Gathers-gains, Gathers-kept, IsLess-from}
 use Rattle.ecr_http.proofs.intake.Intake.gather_more.Goals as goal

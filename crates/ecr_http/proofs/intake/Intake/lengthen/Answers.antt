@@ -1,4 +1,4 @@
-use Rattle.std.proofs.Common.{◌≡◌, ◌≤◌, ◌<◌, ◌∙◌, length, subst, sym, ap, arith}
+use Rattle.std.proofs.Common.{◌≡◌, ◌∙◌, ap, arith}
 use Rattle.ecr_model.specs.Framing.{max_head, HasNoEnd}
 use Rattle.ecr_model.specs.Stream.{blank_length}
 use Rattle.ecr_http.specs.Leads.{IsShort}

@@ -1,4 +1,4 @@
-use Rattle.std.proofs.Common.{◌≡◌, ◌∙◌, true, false, refl, sym, ap, subst, List, ℕ}
+use Rattle.std.proofs.Common.{refl}
 use Rattle.ecr_model.specs.Framing.{max_head}
 use Rattle.ecr_http.proofs.EventLemmas.{Nexts-bad, Nexts-long_head, Nexts-stopped}
 use Rattle.ecr_http.proofs.intake.Intake.next_event.Goals as goal

@@ -1,4 +1,4 @@
-use Rattle.std.proofs.Common.{arith, take, length}
+use Rattle.std.proofs.Common.{arith}
 use Rattle.std.proofs.lemmas.List.{length-take}
 use Rattle.ecr_model.specs.Framing.{max_head}
 use Rattle.ecr_http.proofs.intake.Intake.parse.Goals as goal

@@ -1,4 +1,4 @@
-use Rattle.std.proofs.Common.{◌≡◌, ℕ, List, sym, subst, arith}
+use Rattle.std.proofs.Common.{ℕ, List, sym, subst, arith}
 use Rattle.ecr_http.specs.Bodies.{Gathers}
 use Rattle.ecr_http.proofs.BodyLemmas.{Gathers-start, Bodies-whole, Bodies-stopped}
 use Rattle.ecr_http.proofs.intake.Intake.take_sized.Goals as goal

@@ -1,4 +1,4 @@
-use Rattle.std.proofs.Common.{◌≤◌, length}
+use Rattle.std.proofs.Common.{◌≤◌}
 use Rattle.ecr_http.specs.Bodies.{Gathers}
 use Rattle.ecr_http.specs.Takings.{left_to_read}
 use Rattle.ecr_http.proofs.intake.Intake.take_sized.Given as goal

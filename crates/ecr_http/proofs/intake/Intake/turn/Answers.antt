@@ -1,4 +1,4 @@
-use Rattle.std.proofs.Common.{◌≡◌, ◌∙◌, subst, sym, ap}
+use Rattle.std.proofs.Common.{◌∙◌, subst, sym, ap}
 use Rattle.ecr_model.specs.Stream.{blank_length}
 use Rattle.ecr_http.specs.Leads.{Shows}
 use Rattle.ecr_http.specs.declared.intake.Intake.{Intake}
