@@ -1,3 +1,5 @@
 pub mod JsonLemmas
+pub mod MarkLemmas
 pub mod OrderLemmas
+pub mod ReadingLemmas
 pub mod SetLemmas

@@ -1,13 +1,16 @@
 -- Sets of texts, as lists in order.
-use Rattle.std.proofs.Common.{◌≡◌, ℕ, ◌+◌, ◌<◌, Bool, true, false, cond, ◌||◌, ◌&&◌, List, [], ◌∷◌, length, take, get_or, map, refl, sym, ap, subst, ◌∙◌, bytes_eq, Less}
-use Rattle.std.specs.BTreeSet.{BTreeSet}
-use Rattle.std.specs.Cmp.Lexicographic.{pointwise, slice_cmp, nat_list_cmp_total}
-use Rattle.std.specs.List.{list_any, AllByRecursion}
-use Rattle.std.specs.List.Sorted.{IsStrictlySortedBy}
-use Rattle.std.specs.Ordering.{is_eq, nat_cmp}
-use Rattle.std.proofs.lemmas.Bool.{and_parts, and_from, or_left, or_right, or_cases, false≢true}
+use Rattle.std.proofs.Common.{◌≡◌, ℕ, Bool, true, false, ◌||◌, ◌&&◌, List, [], ◌∷◌, map, refl, sym, ap, subst, ◌∙◌, bytes_eq, Less}
+use Rattle.std.specs.Cmp.Lexicographic.{pointwise, slice_cmp, nat_list_cmp_total, on_texts}
+use Rattle.std.specs.List.{list_any, dedup, dedup_from, AllByRecursion}
+use Rattle.std.specs.List.Retain.{DiffersFromLast, IsFiltered}
+use Rattle.std.specs.List.Sorted.{IsPermutation, IsSorted, IsStrictlySortedBy}
+use Rattle.std.specs.declared.cmp.Ordering.{Ordering}
+use Rattle.std.specs.Ordering.{is_eq, nat_cmp, on}
+use Rattle.std.proofs.lemmas.Bool.{and_parts, cond_both, and_from, or_left, or_right, or_cases, false≢true}
 use Rattle.std.proofs.lemmas.Bool.Decides.{same_from_decides, Decides-like}
-use Rattle.std.proofs.lemmas.List.Folds.{list_any_more}
+use Rattle.std.proofs.lemmas.List.Filters.{dedup_is}
+use Rattle.std.proofs.lemmas.List.Kept.{IsStrictlySortedBy-dedup}
+use Rattle.std.proofs.lemmas.List.Sorted.{list_any-IsPermutation}
 use Rattle.std.proofs.lemmas.Map.Lookups.{btree_set_from_contains, exact_bytes}
 use Rattle.std.proofs.lemmas.Map.Text.{is_eq-slice_cmp}
 use Rattle.std.proofs.lemmas.Slice.Eq.{bytes_eq-Decides, slice_eq-Decides}
@@ -16,7 +19,7 @@ use mathlib.Core.Logic.{⊎_elim}
 use Rattle.ecr_model.specs.declared.lifecycle.Choose.{Choose}
 use Rattle.ecr_model.specs.declared.lifecycle.Choose.TheVariants.{Prefixes}
 use Rattle.ecr_model.specs.Policies.{is_subset, have_same_texts}
-use Rattle.ecr_policy.specs.Sets.{prefixes_of, is_among, by_text, has, InOrder}
+use Rattle.ecr_policy.specs.Sets.{prefixes_of, is_among, InOrder}
 
 -- the order of the two doesn't matter
 bytes_eq-swap : (a b : List ℕ) → bytes_eq a b ≡ bytes_eq b a
@@ -50,7 +53,7 @@ is_subset-is_among (x ∷ xs) ys h =
     (is_subset-is_among xs ys (λ text e. h text (or_right (bytes_eq x text) (is_among xs text) e)))
 
 -- two answers that imply one another
-same_answer : (a b : Bool) → (a ≡ true → b ≡ true) → (b ≡ true → a ≡ true) → a ≡ b
+pub same_answer : (a b : Bool) → (a ≡ true → b ≡ true) → (b ≡ true → a ≡ true) → a ≡ b
 same_answer a b f g = same_from_decides {P = a ≡ true} a b ((λ e. e), (λ e. e)) (g, f)
 
 -- ---- lists in order
@@ -77,11 +80,13 @@ pointwise-InOrder a b xs ys p q =
 
 -- ---- by references
 
-pub pointwise-now : (a b : List (Bor (List ℕ))) → pointwise (λ x y. bytes_eq x.now y.now) a b ≡ pointwise bytes_eq (map (λ t. t.now) a) (map (λ t. t.now) b)
-pointwise-now [] [] = refl
-pointwise-now [] (y ∷ b) = refl
-pointwise-now (x ∷ a) [] = refl
-pointwise-now (x ∷ a) (y ∷ b) = ap (λ e. bytes_eq x.now y.now && e) (pointwise-now a b)
+-- the order of two references is that of their texts
+abbrev by_text : Bor (List ℕ) → Bor (List ℕ) → Ordering
+by_text = on (λ x. x.now) (slice_cmp nat_cmp)
+
+-- two references are equal where their texts are
+abbrev same_text : Bor (List ℕ) → Bor (List ℕ) → Bool
+same_text x y = bytes_eq x.now y.now
 
 below-now : (x : Bor (List ℕ)) (ts : List (Bor (List ℕ))) → AllByRecursion (λ y. by_text x y ≡ Less) ts → AllByRecursion (λ y. slice_cmp nat_cmp x.now y ≡ Less) (map (λ t. t.now) ts)
 below-now x [] h = tt
@@ -92,32 +97,46 @@ unfolding IsStrictlySortedBy
 ascending-now [] h = tt
 ascending-now (t ∷ ts) h = (below-now t ts h.0, ascending-now ts h.1)
 
-is_among-now : (ts : List (Bor (List ℕ))) (text : List ℕ) → is_among (map (λ t. t.now) ts) text ≡ list_any (λ t. is_eq (slice_cmp nat_cmp text t.now)) ts
+is_among-now : (ts : List (Bor (List ℕ))) (text : List ℕ) → is_among (map (λ t. t.now) ts) text ≡ list_any (λ t. bytes_eq t.now text) ts
 is_among-now [] text = refl
-is_among-now (t ∷ ts) text = λ i. sym (is_eq-slice_cmp text t.now ∙ bytes_eq-swap text t.now) i || is_among-now ts text i
+is_among-now (t ∷ ts) text = ap (λ b. bytes_eq t.now text || b) (is_among-now ts text)
 
--- the keys of a set that answers as the texts do
-pub InOrder-now : (set : BTreeSet (Bor (List ℕ))) (keys : List (Bor (List ℕ))) (texts : List (List ℕ)) → keys ≡ set.keys → IsStrictlySortedBy by_text set.keys
-    → ((text : List ℕ) → has set text ≡ is_among texts text) → InOrder (map (λ t. t.now) keys) texts
-InOrder-now set keys texts e ascending same =
-    subst (λ (ks : List (Bor (List ℕ))). InOrder (map (λ t. t.now) ks) texts) (sym e) (record {
-      ascending = ascending-now set.keys ascending;
-      same = λ text. is_among-now set.keys text ∙ same text;
-    })
+or_again : (a b : Bool) → (a || (a || b)) ≡ (a || b)
+or_again true b = refl
+or_again false b = refl
 
-or_swap : (a b : Bool) → (a || b) ≡ cond b true a
-or_swap true true = refl
-or_swap true false = refl
-or_swap false true = refl
-or_swap false false = refl
+-- a test that equal texts pass alike finds the same among neighbours of which equal ones are dropped
+list_any-dedup_from : (text : List ℕ) (k : Bor (List ℕ)) (ts : List (Bor (List ℕ)))
+    → list_any (λ t. bytes_eq t.now text) (dedup_from same_text k ts) ≡ (bytes_eq k.now text || list_any (λ t. bytes_eq t.now text) ts)
+list_any-dedup_from text k [] = refl
+list_any-dedup_from text k (t ∷ ts) =
+    cond_both (same_text t k) (dedup_from same_text k ts) (k ∷ dedup_from same_text t ts)
+    (λ kept. list_any (λ t. bytes_eq t.now text) kept ≡ (bytes_eq k.now text || (bytes_eq t.now text || list_any (λ t. bytes_eq t.now text) ts)))
+    (λ e. list_any-dedup_from text k ts
+    ∙ sym (or_again (bytes_eq k.now text) (list_any (λ t. bytes_eq t.now text) ts))
+    ∙ ap (λ (x : List ℕ). bytes_eq k.now text || (bytes_eq x text || list_any (λ t. bytes_eq t.now text) ts)) (sym ((bytes_eq-Decides t.now k.now).0 e)))
+    (λ e. ap (λ b. bytes_eq k.now text || b) (list_any-dedup_from text t ts))
 
--- as a set answers after one text more was added
-pub is_among-more : (texts : List (List ℕ)) (i : ℕ) (d text : List ℕ) → i < length texts
-    → is_among (take (i + 1) texts) text ≡ cond (is_eq (slice_cmp nat_cmp (get_or texts i d) text)) true (is_among (take i texts) text)
-is_among-more texts i d text h =
-    list_any_more (λ t. bytes_eq t text) texts i d h
-    ∙ or_swap (is_among (take i texts) text) (bytes_eq (get_or texts i d) text)
-    ∙ ap (λ (b : Bool). cond b true (is_among (take i texts) text)) (sym (is_eq-slice_cmp (get_or texts i d) text))
+list_any-dedup : (text : List ℕ) (ts : List (Bor (List ℕ))) → list_any (λ t. bytes_eq t.now text) (dedup same_text ts) ≡ list_any (λ t. bytes_eq t.now text) ts
+list_any-dedup text [] = refl
+list_any-dedup text (t ∷ ts) = list_any-dedup_from text t ts
+
+-- what a sort leaves, of which equal neighbours were dropped
+pub InOrder-dedup : (given sorted kept : List (Bor (List ℕ))) (texts : List (List ℕ)) → map (λ t. t.now) given ≡ texts
+    → IsPermutation given sorted → IsSorted by_text sorted → IsFiltered (DiffersFromLast same_text) [] sorted kept
+    → InOrder (map (λ t. t.now) kept) texts
+InOrder-dedup given sorted kept texts e permutation order filtered =
+    let is = dedup_is same_text sorted kept filtered in
+    record {
+      ascending = ascending-now kept (subst (IsStrictlySortedBy by_text) (sym is)
+          (IsStrictlySortedBy-dedup (on_texts (λ x. x.now)) (λ x y. sym (is_eq-slice_cmp x.now y.now)) sorted order));
+      same = λ text. is_among-now kept text
+          ∙ ap (list_any (λ t. bytes_eq t.now text)) is
+          ∙ list_any-dedup text sorted
+          ∙ sym (list_any-IsPermutation (λ t. bytes_eq t.now text) given sorted permutation)
+          ∙ sym (is_among-now given text)
+          ∙ ap (λ (ts : List (List ℕ)). is_among ts text) e;
+    }
 
 -- of two lists of prefixes
 pub have_same_texts-Prefixes : (c d : Choose) (xs ys : List (List ℕ)) → c ≡ Prefixes xs → d ≡ Prefixes ys

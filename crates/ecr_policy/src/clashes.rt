@@ -1,5 +1,5 @@
 // The rules of a policy beside each other: causes 14 to 17.
-ghost use Rattle.std.specs.Prelude.{◌≡◌, ◌≤◌, ◌==◌, IfOk, nat_lt, length, [], List};
+ghost use Rattle.std.specs.Prelude.{◌≡◌, ◌≤◌, ◌==◌, IfOk, nat_lt, length, []};
 ghost use Rattle.std.specs.List.{list_any};
 ghost use Rattle.ecr_model.specs.Policies.{is_any, is_untagged, have_same_texts, clash, clashes_from};
 

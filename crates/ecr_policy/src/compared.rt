@@ -1,23 +1,20 @@
 // A rule and its prefixes in order.
-ghost use Rattle.std.specs.Prelude.{◌≡◌, ℕ, List, IfOk, OnOk, map, true, if◌then◌else◌};
-ghost use Rattle.std.specs.Cmp.Lexicographic.{slice_cmp};
-ghost use Rattle.std.specs.List.Sorted.{IsStrictlySortedBy};
-ghost use Rattle.std.specs.Ordering.{is_eq, nat_cmp};
+ghost use Rattle.std.specs.Prelude.{◌≡◌, IfOk, map};
 ghost use Rattle.ecr_model.specs.Policies.{have_same_texts};
 ghost use Rattle.ecr_model.specs.declared.lifecycle.Rule.{Rule};
-ghost use Rattle.ecr_policy.specs.Sets.{prefixes_of, is_among, by_text, has, InOrder};
+ghost use Rattle.ecr_policy.specs.Sets.{prefixes_of, InOrder};
 
+use crate::marked::Marked;
 use ecr_model::{Choose, Mem, Rule, Text};
 use std::alloc::Global;
-use std::collections::BTreeSet;
 use std::marker::Model;
 
-/// A rule beside its prefixes in order, each once, so that those of two rules are compared in one walk. Contracts see
-/// the rule.
+/// A rule beside its prefixes in order, each once, so that rules with the same set of them have equal lists. Contracts
+/// see the rule.
 #[derive(Drop)]
 pub(crate) struct Compared<'a> {
     rule: &'a Rule,
-    prefixes: Vec<&'a [u8]>,
+    prefixes: Marked<'a>,
 }
 
 impl<'a> Model for Compared<'a> {
@@ -25,7 +22,7 @@ impl<'a> Model for Compared<'a> {
 
     ghost view = { λ c. c.rule.now };
 
-    ghost invariant = { λ c. InOrder (map (λ t. t.now) c.prefixes.items) (prefixes_of c.rule.now.choose) };
+    ghost invariant = { λ c. InOrder c.prefixes (prefixes_of c.rule.now.choose) };
 }
 
 impl<'a> Compared<'a> {
@@ -49,7 +46,7 @@ impl<'a> Compared<'a> {
         ensures { result ≡ have_same_texts self.now.choose other.now.choose }
     {
         match (&self.rule.choose, &other.rule.choose) {
-            (Choose::Prefixes(_), Choose::Prefixes(_)) => self.prefixes == other.prefixes,
+            (Choose::Prefixes(_), Choose::Prefixes(_)) => self.prefixes.is_same(&other.prefixes),
             _ => false,
         }
     }
@@ -66,38 +63,22 @@ fn prefixes_of(choose: &Choose) -> &[Text]
 }
 
 /// The texts in order, each once.
-fn in_order<'a>(alloc: Global, texts: &'a [Text]) -> Result<Vec<&'a [u8]>, Mem>
-    ensures { IfOk result (λ v. InOrder (map (λ t. t.now) v.items) texts.now) }
+fn in_order<'a>(alloc: Global, texts: &'a [Text]) -> Result<Marked<'a>, Mem>
+    ensures { IfOk result (λ sorted. InOrder sorted texts.now) }
 {
-    let set = set_of(alloc, texts)?;
-    keys_of(alloc, set)
+    let mut sorted = all_of(alloc, texts)?;
+    sorted.sort_unstable();
+    sorted.dedup();
+    Ok(Marked::new(sorted))
 }
 
-/// The set of the texts.
-fn set_of<'a>(alloc: Global, texts: &'a [Text]) -> Result<BTreeSet<&'a [u8]>, Mem>
-    ensures { IfOk result (λ s. (text : List ℕ) → has s text ≡ is_among texts.now text) }
+/// The bytes of each text.
+fn all_of<'a>(alloc: Global, texts: &'a [Text]) -> Result<Vec<&'a [u8]>, Mem>
+    ensures { IfOk result (λ v. map (λ t. t.now) v.items ≡ texts.now) }
 {
-    let mut set = BTreeSet::new(alloc);
+    let mut all = Vec::with_capacity(alloc, texts.len())?;
     for text in texts {
-        add(&mut set, text.as_bytes())?;
+        all.push(text.as_bytes())?;
     }
-    Ok(set)
-}
-
-/// Adds the text to the set.
-fn add<'a>(set: &mut BTreeSet<&'a [u8]>, text: &'a [u8]) -> Result<(), Mem>
-    ensures { OnOk result ((t : List ℕ) → has set.new t ≡ (if is_eq (slice_cmp nat_cmp text.now t) then true else has set.old t)) }
-{
-    match set.insert(text) {
-        Ok(_) => Ok(()),
-        Err(_) => Err(Mem),
-    }
-}
-
-/// The texts of the set.
-fn keys_of<'a>(alloc: Global, set: BTreeSet<&'a [u8]>) -> Result<Vec<&'a [u8]>, Mem>
-    ensures keys { IfOk result (λ v. v.items ≡ set.entry.keys) }
-    ensures ascending { IsStrictlySortedBy by_text set.entry.keys }
-{
-    set.into_iter().collect(alloc)
+    Ok(all)
 }

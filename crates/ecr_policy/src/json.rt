@@ -72,13 +72,23 @@ pub(crate) fn is_text_at(name: &str, text: &str, value: &Value) -> bool
     }
 }
 
-/// The list of a member, where it is there and is one.
-pub(crate) fn array_at<'a>(name: &str, value: &'a Value) -> Option<&'a Vec<Value>>
-    ensures { option_map (λ v. items_view v.now.items) result ≡ option_and_then as_array (get name.now (view value.now)) }
+/// The list of a member, where it is there and is one. Nothing of it is copied, and nothing is said of what is left.
+pub(crate) fn take_list(name: &str, value: &mut Value) -> Option<Vec<Value>>
+    ensures { option_map (λ v. items_view v.items) result ≡ option_and_then as_array (get name.now (view value.old)) }
 {
-    match value.get(name) {
-        Some(member) => member.as_array(),
+    match value.get_mut(name) {
+        Some(member) => list_of(member.take()),
         None => None,
+    }
+}
+
+/// The list that the value is.
+fn list_of(value: Value) -> Option<Vec<Value>>
+    ensures { option_map (λ v. items_view v.items) result ≡ as_array (view value) }
+{
+    match value {
+        Value::Array(items) => Some(items),
+        _ => None,
     }
 }
 

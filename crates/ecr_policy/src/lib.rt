@@ -7,6 +7,7 @@
 mod clashes;
 mod compared;
 mod json;
+mod marked;
 mod order;
 mod reading;
 mod refusal;

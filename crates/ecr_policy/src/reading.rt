@@ -7,7 +7,7 @@ ghost use Rattle.ecr_policy.specs.declared.refusal.PolicyRefusal.TheVariants.{Ba
 
 use crate::PolicyRefusal;
 use crate::clashes::first_clash;
-use crate::json::{array_at, characters, has_only};
+use crate::json::{characters, has_only, take_list};
 use crate::order::by_number;
 use crate::rules::rules_of;
 use ecr_model::{Listed, Mem, Policy, PolicyFault, Rule, Text};
@@ -40,14 +40,15 @@ fn read_policy(alloc: Global, text: &str) -> Result<Result<Policy, PolicyFault>,
         return Ok(Err(of_text(1)));
     }
     let document = read_json(alloc, text)?;
-    read_rules(alloc, text, rules_in(&document))
+    read_rules(alloc, text, rules_in(document))
 }
 
 /// Whether the text has 100 to 30,720 characters.
 fn has_length(text: &str) -> bool
     ensures { result ≡ has_length text.now }
 {
-    characters(text) >= 100 && characters(text) <= 30720
+    let many = characters(text);
+    many >= 100 && many <= 30720
 }
 
 /// The JSON reading of the text, where it has one.
@@ -62,8 +63,8 @@ fn read_json(alloc: Global, text: &str) -> Result<Option<Value>, Mem>
 }
 
 /// The list of rules, where the document is an object with that member alone.
-fn rules_in(document: &Option<Value>) -> Option<&Vec<Value>>
-    ensures { option_map (λ v. items_view v.now.items) result ≡ rules_in (option_map view document.now) }
+fn rules_in(document: Option<Value>) -> Option<Vec<Value>>
+    ensures { option_map (λ v. items_view v.items) result ≡ rules_in (option_map view document) }
 {
     match document {
         Some(value) => rules_at(value),
@@ -72,11 +73,11 @@ fn rules_in(document: &Option<Value>) -> Option<&Vec<Value>>
 }
 
 /// The list of rules, where the value is an object with that member alone.
-fn rules_at(value: &Value) -> Option<&Vec<Value>>
-    ensures { option_map (λ v. items_view v.now.items) result ≡ rules_in (Some (view value.now)) }
+fn rules_at(mut value: Value) -> Option<Vec<Value>>
+    ensures { option_map (λ v. items_view v.items) result ≡ rules_in (Some (view value)) }
 {
-    if has_only(&["rules"], value) {
-        array_at("rules", value)
+    if has_only(&["rules"], &value) {
+        take_list("rules", &mut value)
     } else {
         None
     }
@@ -86,20 +87,20 @@ fn rules_at(value: &Value) -> Option<&Vec<Value>>
 fn read_rules(
     alloc: Global,
     text: &str,
-    rules: Option<&Vec<Value>>,
+    rules: Option<Vec<Value>>,
 ) -> Result<Result<Policy, PolicyFault>, Mem>
-    ensures { IfOk result (λ r. r ≡ read_rules text.now (option_map (λ v. items_view v.now.items) rules.entry)) }
+    ensures { IfOk result (λ r. r ≡ read_rules text.now (option_map (λ v. items_view v.items) rules)) }
 {
     match rules {
-        Some(rules) => listed(alloc, text, rules.as_slice()),
+        Some(rules) => listed(alloc, text, rules),
         None => Ok(Err(of_text(2))),
     }
 }
 
 /// The policy of the items, or the first cause from 3 on.
 #[tactic(auto, using(crate::proofs::JsonLemmas::items))]
-fn listed(alloc: Global, text: &str, items: &[Value]) -> Result<Result<Policy, PolicyFault>, Mem>
-    ensures { IfOk result (λ r. r ≡ listed text.now (items_view items.now)) }
+fn listed(alloc: Global, text: &str, items: Vec<Value>) -> Result<Result<Policy, PolicyFault>, Mem>
+    ensures { IfOk result (λ r. r ≡ listed text.now (items_view items.items)) }
 {
     if items.is_empty() || items.len() > 50 {
         return Ok(Err(of_text(3)));

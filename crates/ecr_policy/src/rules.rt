@@ -1,7 +1,10 @@
 // The rules of a policy, each by itself: causes 4 to 13.
 ghost use Rattle.std.specs.Prelude.{◌≡◌, ◌≤◌, ◌∷◌, [], Some, IfOk, codes, length, option_map};
+ghost use Rattle.serde_json.specs.Data.{Data};
+ghost use Rattle.serde_json.specs.Find.{get};
 ghost use Rattle.serde_json.specs.View.{view, items_view};
-ghost use Rattle.ecr_model.specs.Policies.{has_only, is_action, is_described, with_count, with_choose, with_selection, with_priority, rule_of, rules_from};
+ghost use Rattle.ecr_model.specs.Policies.{has_only, is_action, is_described, with_count, with_choose, with_selection, with_priority, rule_of, rules_from, count_of};
+ghost use Rattle.ecr_policy.specs.Shown.{HasAction};
 
 use crate::json::{has, has_only, is_text_at, text_at, whole_at};
 use crate::selection::{choose_of, count_of};
@@ -12,10 +15,10 @@ use std::alloc::Global;
 /// The rules of the list, or the first that is refused.
 pub(crate) fn rules_of(
     alloc: Global,
-    items: &[Value],
+    items: Vec<Value>,
 ) -> Result<Result<Listed<Rule>, PolicyFault>, Mem>
-    requires { length items.now ≤ 50 }
-    ensures exact { IfOk result (λ r. r ≡ rules_from 1 (items_view items.now)) }
+    requires { length items.items ≤ 50 }
+    ensures exact { IfOk result (λ r. r ≡ rules_from 1 (items_view items.items)) }
     ensures few { IfOk result (λ r. IfOk r (λ rules. length rules ≤ 50)) }
 {
     let mut rules = Vec::new(alloc);
@@ -36,13 +39,14 @@ pub(crate) fn rules_of(
 }
 
 /// The rule that the value is, or the first of the causes 4 to 13.
-fn rule_of(alloc: Global, value: &Value) -> Result<Result<Rule, u8>, Mem>
-    ensures { IfOk result (λ r. r ≡ rule_of (view value.now)) }
+fn rule_of(alloc: Global, mut value: Value) -> Result<Result<Rule, u8>, Mem>
+    ensures { IfOk result (λ r. r ≡ rule_of (view value)) }
 {
-    if !is_rule(value) {
+    if !is_rule(&value) {
         return Ok(Err(4));
     }
-    with_priority(alloc, value, whole_at("rulePriority", value))
+    let priority = whole_at("rulePriority", &value);
+    with_priority(alloc, &mut value, priority)
 }
 
 /// Whether the value is an object with the members of a rule alone.
@@ -58,10 +62,10 @@ fn is_rule(value: &Value) -> bool
 /// The rule of that priority, or the first of the causes 5 to 13.
 fn with_priority(
     alloc: Global,
-    value: &Value,
+    value: &mut Value,
     priority: Option<u32>,
 ) -> Result<Result<Rule, u8>, Mem>
-    ensures { IfOk result (λ r. r ≡ with_priority (view value.now) priority) }
+    ensures { IfOk result (λ r. r ≡ with_priority (view value.old) priority) }
 {
     let Some(priority) = priority else {
         return Ok(Err(5))
@@ -69,7 +73,7 @@ fn with_priority(
     if !is_described(value) {
         return Ok(Err(6));
     }
-    with_selection(alloc, value, priority, value.get("selection"))
+    with_selection(alloc, value, priority)
 }
 
 /// Whether a description is a text.
@@ -79,35 +83,33 @@ fn is_described(value: &Value) -> bool
     !has("description", value) || text_at("description", value).is_some()
 }
 
-/// The rule of that selection, or the first of the causes 7 to 13.
-fn with_selection(
-    alloc: Global,
-    value: &Value,
-    priority: u32,
-    selection: Option<&Value>,
-) -> Result<Result<Rule, u8>, Mem>
-    ensures { IfOk result (λ r. r ≡ with_selection (view value.now) priority (option_map (λ s. view s.now) selection.entry)) }
+/// The rule of the selection that the value has, or the first of the causes 7 to 13.
+fn with_selection(alloc: Global, value: &mut Value, priority: u32) -> Result<Result<Rule, u8>, Mem>
+    ensures { IfOk result (λ r. r ≡ with_selection (view value.old) priority (get (codes "selection") (view value.old))) }
 {
-    match selection {
-        Some(selection) => selected(alloc, value, priority, selection),
+    // Nothing is known of the value once its selection was taken apart.
+    let expires = is_action(value.get("action"));
+    match value.get_mut("selection") {
+        Some(selection) => selected(alloc, priority, selection, expires),
         None => Ok(Err(7)),
     }
 }
 
-/// The rule of that selection, or the first of the causes 7 to 13.
+/// The rule of that selection, or the first of the causes 7 to 13. `expires` is whether the action is one.
 fn selected(
     alloc: Global,
-    value: &Value,
     priority: u32,
-    selection: &Value,
+    selection: &mut Value,
+    expires: bool,
 ) -> Result<Result<Rule, u8>, Mem>
-    ensures { IfOk result (λ r. r ≡ with_selection (view value.now) priority (Some (view selection.now))) }
+    ensures { (d : Data) → HasAction expires d → IfOk result (λ r. r ≡ with_selection d priority (Some (view selection.old))) }
 {
     if !is_selection(selection) {
         return Ok(Err(7));
     }
+    let count = count_of(selection);
     let choose = choose_of(alloc, selection)?;
-    Ok(with_choose(value, priority, selection, choose))
+    Ok(with_choose(priority, choose, count, expires))
 }
 
 /// Whether the value is an object with the members of a selection alone.
@@ -128,33 +130,33 @@ fn is_selection(value: &Value) -> bool
 
 /// The rule of that choice, or the first of the causes 8 to 13.
 fn with_choose(
-    value: &Value,
     priority: u32,
-    selection: &Value,
     choose: Result<Choose, u8>,
+    count: Result<Count, u8>,
+    expires: bool,
 ) -> Result<Rule, u8>
-    ensures { result ≡ with_choose (view value.now) priority (view selection.now) choose }
+    ensures { (d s : Data) → HasAction expires d → count ≡ count_of s → result ≡ with_choose d priority s choose }
 {
     match choose {
-        Ok(choose) => with_count(value, priority, choose, count_of(selection)),
+        Ok(choose) => with_count(priority, choose, count, expires),
         Err(cause) => Err(cause),
     }
 }
 
 /// The rule of that count, or the first of the causes 10 to 13.
 fn with_count(
-    value: &Value,
     priority: u32,
     choose: Choose,
     count: Result<Count, u8>,
+    expires: bool,
 ) -> Result<Rule, u8>
-    ensures { result ≡ with_count (view value.now) priority choose count }
+    ensures { (d : Data) → HasAction expires d → result ≡ with_count d priority choose count }
 {
     let count = match count {
         Ok(count) => count,
         Err(cause) => return Err(cause),
     };
-    if !is_action(value.get("action")) {
+    if !expires {
         return Err(13);
     }
     Ok(Rule {

@@ -1,19 +1,19 @@
 // The selection of a rule: causes 8 to 12.
-ghost use Rattle.std.specs.Prelude.{◌≡◌, ◌≤◌, Ok, Some, IfOk, length, option_map};
+ghost use Rattle.std.specs.Prelude.{◌≡◌, ◌&&◌, Ok, Some, IfOk, nat_le, option_map};
 ghost use Rattle.serde_json.specs.View.{view, items_view};
 ghost use Rattle.ecr_model.specs.Policies.{is_prefix, are_prefixes, is_prefix_list, texts_of, prefixes_of, without_list, choose_of, older_than, more_than, count_of};
 
-use crate::json::{array_at, characters, has, is_text_at, whole_at};
+use crate::json::{characters, has, is_text_at, take_list, whole_at};
 use ecr_model::{Choose, Count, Listed, Mem, Text};
 use serde_json::Value;
 use std::alloc::Global;
 
-/// The images that the selection chooses, or cause 8 or 9.
-pub(crate) fn choose_of(alloc: Global, selection: &Value) -> Result<Result<Choose, u8>, Mem>
-    ensures { IfOk result (λ r. r ≡ choose_of (view selection.now)) }
+/// The images that the selection chooses, or cause 8 or 9. Its prefixes are taken out of it.
+pub(crate) fn choose_of(alloc: Global, selection: &mut Value) -> Result<Result<Choose, u8>, Mem>
+    ensures { IfOk result (λ r. r ≡ choose_of (view selection.old)) }
 {
     if is_text_at("tagStatus", "tagged", selection) {
-        return prefixes_of(alloc, array_at("tagPrefixList", selection));
+        return prefixes_of(alloc, take_list("tagPrefixList", selection));
     }
     if is_text_at("tagStatus", "untagged", selection) {
         return Ok(without_list(selection, Choose::Untagged));
@@ -36,20 +36,20 @@ fn without_list(selection: &Value, choose: Choose) -> Result<Choose, u8>
 }
 
 /// The choice by the prefixes of the list.
-fn prefixes_of(alloc: Global, list: Option<&Vec<Value>>) -> Result<Result<Choose, u8>, Mem>
-    ensures { IfOk result (λ r. r ≡ prefixes_of (option_map (λ v. items_view v.now.items) list.entry)) }
+fn prefixes_of(alloc: Global, list: Option<Vec<Value>>) -> Result<Result<Choose, u8>, Mem>
+    ensures { IfOk result (λ r. r ≡ prefixes_of (option_map (λ v. items_view v.items) list)) }
 {
     match list {
-        Some(list) => prefixes_in(alloc, list.as_slice()),
+        Some(list) => prefixes_in(alloc, list),
         None => Ok(Err(9)),
     }
 }
 
 /// The choice by the prefixes.
-fn prefixes_in(alloc: Global, items: &[Value]) -> Result<Result<Choose, u8>, Mem>
-    ensures { IfOk result (λ r. r ≡ prefixes_of (Some (items_view items.now))) }
+fn prefixes_in(alloc: Global, items: Vec<Value>) -> Result<Result<Choose, u8>, Mem>
+    ensures { IfOk result (λ r. r ≡ prefixes_of (Some (items_view items.items))) }
 {
-    if !is_prefix_list(items) {
+    if !is_prefix_list(items.as_slice()) {
         return Ok(Err(9));
     }
     let texts = texts_of(alloc, items)?;
@@ -81,19 +81,26 @@ fn is_prefix(item: &Value) -> bool
     ensures { result ≡ is_prefix (view item.now) }
 {
     match item.as_str() {
-        Some(text) => characters(text) >= 1 && characters(text) <= 128,
+        Some(text) => is_short(characters(text)),
         None => false,
     }
 }
 
-/// The texts among the items.
-fn texts_of(alloc: Global, items: &[Value]) -> Result<Listed<Text>, Mem>
-    ensures { IfOk result (λ texts. texts ≡ texts_of (items_view items.now)) }
+/// Whether a text of so many characters may be a prefix.
+fn is_short(many: usize) -> bool
+    ensures { result ≡ (nat_le 1 many && nat_le many 128) }
 {
-    let mut texts = Vec::new(alloc);
+    many >= 1 && many <= 128
+}
+
+/// The texts among the items, which aren't copied.
+fn texts_of(alloc: Global, items: Vec<Value>) -> Result<Listed<Text>, Mem>
+    ensures { IfOk result (λ texts. texts ≡ texts_of (items_view items.items)) }
+{
+    let mut texts = Vec::with_capacity(alloc, items.len())?;
     for item in items {
-        if let Some(text) = item.as_str() {
-            texts.push(Text::copy_of(alloc, text.as_bytes())?)?;
+        if let Value::String(text) = item {
+            texts.push(Text::from_vec(text.into_bytes()))?;
         }
     }
     Ok(Listed::from_vec(texts))

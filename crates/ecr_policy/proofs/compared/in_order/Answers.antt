@@ -1,10 +1,11 @@
-use Rattle.std.proofs.Common.{◌≡◌}
-use Rattle.std.proofs.lemmas.Result.{IfOk-weaker}
-use Rattle.ecr_policy.proofs.SetLemmas.{InOrder-now}
+use Rattle.std.proofs.Common.{List, ℕ, subst, sym}
+use Rattle.ecr_policy.specs.Sets.{InOrder}
+use Rattle.ecr_policy.proofs.SetLemmas.{InOrder-dedup}
 use Rattle.ecr_policy.proofs.compared.in_order.Goals as goal
 
 pub returns : goal.returns
 returns c =
-    IfOk-weaker c.keys_of.result (λ v. v.items ≡ c.in_ok-set.set.keys) _
-    (λ v e. InOrder-now c.in_ok-set.set v.items c.args.texts.now e c.keys_of.ensures.ascending c.in_ok-set.ensures)
-    c.keys_of.ensures.keys
+    let texts = c.args.texts.now in
+    let ordered = InOrder-dedup c.in_ok-sorted.sorted.items c.sort_unstable.new.self.items c.dedup.new.self.items texts c.in_ok-sorted.ensures
+    c.sort_unstable.ensures.permutation c.sort_unstable.ensures.sorted c.dedup.ensures.filtered in
+    subst (λ (sorted : List (List ℕ)). InOrder sorted texts) (sym c.new.ensures) ordered
