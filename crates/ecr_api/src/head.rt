@@ -1,7 +1,8 @@
 // The heads of replies (RFC 9112, sections 4 and 6).
 ghost use Rattle.std.specs.Prelude.{◌≡◌, IfOk, decimal, string_bytes};
-ghost use Rattle.ecr_model.specs.Replies.{connection_line, json_head};
+ghost use Rattle.ecr_model.specs.Replies.{json_head};
 
+use ecr_http::connection_line;
 use ecr_model::Mem;
 use std::alloc::Global;
 
@@ -31,13 +32,6 @@ pub(crate) fn write_json_head(
     head.extend_from_slice(b"\r\n")?;
     head.extend_from_slice(b"\r\n")?;
     Ok(head)
-}
-
-/// The header of a reply after which the session closes (RFC 9112, section 9.6).
-fn connection_line(close: bool) -> &'static [u8]
-    ensures { result.now ≡ connection_line close }
-{
-    if close { b"Connection: close\r\n" } else { b"" }
 }
 
 /// The number in decimal.

@@ -323,10 +323,6 @@ taken-small left lead after now count framing limit rest body size is ready b =
       omega arith,
     )
 
--- the room for fields that is left
-abbrev has_room : Intake → Type 0
-has_room intake = 21846 ≤ length intake.spans.items
-
 pub Behind-body : (left : Option (List ℕ)) (lead : Intake) (after : Option (List ℕ)) (now : Intake) (count : ℕ) (head : Head) (framing : Framing) (limit : ℕ)
     (rest : List ℕ) (body : Vec ℕ Global) (size : ℕ) (r : Request) → rest ≡ drop count lead.buffer → IsReady lead → HasHead lead.buffer count head framing limit
     → Bodies limit framing left (rest_of rest lead) after now (takens.Body body size) → r ≡ request_of now.at head body.items
@@ -358,7 +354,6 @@ Behind-body left lead after now count head framing limit rest body size r is rea
         omega arith,
         buffered,
         record {
-          room = subst has_room (sym b.come.kept) ready.room;
           placed = omega (arith, length-drop (count + size) bytes, length-append lead.buffer got, long.1);
           spent = b.come.spent;
           within = omega arith;

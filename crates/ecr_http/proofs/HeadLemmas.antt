@@ -1,41 +1,44 @@
--- A head of few bytes has few fields, and what its spans say is what is kept of it.
-use Rattle.std.proofs.Common.{◌≡◌, ℕ, ◌*◌, ◌≤◌, List, [], ◌∷◌, ◌++◌, length, take, drop, map, refl, sym, ap, ◌∙◌, arith, length-append, append-nil, Some}
-use Rattle.std.specs.Prelude.{All}
+-- A head has no more fields than lines, and what its spans say is what is kept of it.
+use Rattle.std.proofs.Common.{◌≡◌, ℕ, ◌+◌, ◌≤◌, ◌==◌, cond, List, [], ◌∷◌, ◌++◌, length, take, drop, map, refl, sym, ap, ◌∙◌, arith, append-nil, Some}
 use Rattle.std.proofs.Math.ListN.{drop_of_length-le}
 use Rattle.std.specs.List.{flat_map}
-use Rattle.std.proofs.lemmas.List.Elements.{All-head, All-tail}
+use Rattle.std.proofs.lemmas.List.Sums.{sum_by-append}
 use Rattle.httparse.specs.Grammar as grammar
-use Rattle.httparse.specs.Grammar.{RequestHead, ReadsRequest, print_request, print_blank, print_version, print_field, print_section, print_end, LineEnd, crlf, lf, IsField, field_value}
+use Rattle.httparse.specs.Grammar.{RequestHead, ReadsRequest, print_request, print_blank, print_version, print_field, print_section, print_end, LineEnd, crlf, lf, field_value}
 use Rattle.httparse.specs.declared.spans.HeaderSpan.{HeaderSpan}
 use Rattle.httparse.specs.declared.spans.RequestSpans.{RequestSpans}
 use Rattle.httparse.specs.Spans.{header_bytes, name_and_value, IsRequestAt}
-use Rattle.ecr_model.specs.declared.http.Field.{Field}
+use Rattle.ecr_model.specs.FieldLines.{Field, field_at}
 use Rattle.ecr_model.specs.Fields.{field_of, head_of}
 use Rattle.ecr_model.specs.Framing.{Parses}
-use Rattle.ecr_http.specs.Spans.{field_at, head_at}
+use Rattle.ecr_http.specs.Lines.{line_count}
+use Rattle.ecr_http.specs.Spans.{head_at}
 
-length-print_end : (end : LineEnd) → 1 ≤ length (print_end end)
-length-print_end crlf = omega arith
-length-print_end lf = omega arith
+-- an LF is one line's end
+abbrev ends_line : ℕ → ℕ
+ends_line b = cond (b == 10) 1 0
 
-length-print_field : (f : grammar.Field) → IsField f → 3 ≤ length (print_field f)
-length-print_field f h =
-    let some = h.name.0 in
-    simp length-append (omega (arith, length-print_end f.end, some))
+line_count-append : (xs ys : List ℕ) → line_count (xs ++ ys) ≡ line_count xs + line_count ys
+line_count-append xs ys = sum_by-append ends_line xs ys
 
-length-print_fields : (fields : List grammar.Field) → All IsField fields → 3 * length fields ≤ length (flat_map print_field fields)
-length-print_fields [] h = omega arith
-length-print_fields (f ∷ fs) h =
-    let one = length-print_field f (All-head IsField f fs h) in
-    let others = length-print_fields fs (All-tail IsField f fs h) in
-    omega (arith, length-append (print_field f) (flat_map print_field fs), one, others)
+line_count-print_end : (end : LineEnd) → line_count (print_end end) ≡ 1
+line_count-print_end crlf = refl
+line_count-print_end lf = refl
 
--- each field takes three bytes at least
-pub fields-bound : (bytes : List ℕ) (h : RequestHead) (rest : List ℕ) → ReadsRequest bytes h rest → 3 * length h.fields ≤ length bytes
+line_count-print_field : (f : grammar.Field) → 1 ≤ line_count (print_field f)
+line_count-print_field f = simp line_count-append (omega (arith, line_count-print_end f.end))
+
+line_count-print_fields : (fields : List grammar.Field) → length fields ≤ line_count (flat_map print_field fields)
+line_count-print_fields [] = omega arith
+line_count-print_fields (f ∷ fs) =
+    omega (arith, line_count-append (print_field f) (flat_map print_field fs), line_count-print_field f, line_count-print_fields fs)
+
+-- each field has a line of its own
+pub fields-bound : (bytes : List ℕ) (h : RequestHead) (rest : List ℕ) → ReadsRequest bytes h rest → length h.fields ≤ line_count bytes
 unfolding print_request
 fields-bound bytes h rest r =
-    let fields = length-print_fields h.fields r.0.fields in
-    rw r.1 (simp length-append (omega (arith, fields)))
+    let fields = line_count-print_fields h.fields in
+    rw r.1 (simp line_count-append (omega (arith, fields)))
 
 -- the field of a name and a value
 abbrev to_field : List ℕ × List ℕ → Field

@@ -45,9 +45,8 @@ HasNoEnd-zero bytes k h =
     let none : k ≡ 0 = omega arith in
     subst (λ n. ends_empty bytes n ≡ false) (sym none) refl
 
-pub IsReady-fresh : (intake : Intake) → intake.buffer ≡ [] → intake.at ≡ 0 → intake.total ≡ 0 → intake.scanned ≡ 0 → 21846 ≤ length intake.spans.items → IsReady intake
-IsReady-fresh intake buffer at total scanned room = record {
-  room = room;
+pub IsReady-fresh : (intake : Intake) → intake.buffer ≡ [] → intake.at ≡ 0 → intake.total ≡ 0 → intake.scanned ≡ 0 → IsReady intake
+IsReady-fresh intake buffer at total scanned = record {
   placed = omega (arith, ap length buffer);
   spent = omega arith;
   within = omega arith;
@@ -56,7 +55,6 @@ IsReady-fresh intake buffer at total scanned room = record {
 
 pub IsReady-passed : (intake : Intake) (count : ℕ) → count ≤ length intake.buffer → IsReady intake → IsReady (passed count intake)
 IsReady-passed intake count h ready = record {
-  room = ready.room;
   placed = let placed = ready.placed in omega (arith, length-drop count intake.buffer);
   spent = ready.spent;
   within = omega arith;
@@ -69,7 +67,6 @@ looked n intake = record intake { scanned = n }
 
 IsReady-looked : (intake : Intake) (n : ℕ) → IsReady intake → n ≤ length intake.buffer → HasNoEnd intake.buffer n → IsReady (looked n intake)
 IsReady-looked intake n ready within none_ends = record {
-  room = ready.room;
   placed = ready.placed;
   spent = ready.spent;
   within = within;
@@ -82,7 +79,6 @@ IsReady-lengthened intake piece ready fits =
     let placed = ready.placed in
     let within = ready.within in
     record {
-      room = ready.room;
       placed = omega arith;
       spent = fits;
       within = omega arith;
@@ -136,25 +132,6 @@ IsRead-looked before old after now n r within none_ends = record {
   placed = r.placed;
   ready = IsReady-looked now n r.ready within none_ends;
 }
-
--- the room for fields isn't looked at
-pub IsRead-spans : (before : Option (List ℕ)) (old : Intake) (after : Option (List ℕ)) (now last : Intake) → IsRead before old after now
-    → last ≡ record now { spans = last.spans } → 21846 ≤ length last.spans.items → IsRead before old after last
-IsRead-spans before old after now last r same room = subst (IsRead before old after) (sym same) (record {
-  got = r.got;
-  skipped = r.skipped;
-  consumed = r.consumed;
-  blank = r.blank;
-  buffered = r.buffered;
-  placed = r.placed;
-  ready = record {
-    room = room;
-    placed = r.ready.placed;
-    spent = r.ready.spent;
-    within = r.ready.within;
-    known = r.ready.known;
-  };
-})
 
 IsRead-lengthened : (before : Option (List ℕ)) (old : Intake) (mid after : Option (List ℕ)) (now : Intake) (piece : List ℕ) → IsRead before old mid now
     → Consumes mid after piece → now.total + length piece ≤ max_read → IsRead before old after (lengthened now piece)

@@ -1,3 +1,4 @@
+pub mod LineLemmas
 pub mod HeadLemmas
 pub mod DigitsLemmas
 pub mod SendLemmas

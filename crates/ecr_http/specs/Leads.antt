@@ -13,7 +13,6 @@ use Rattle.ecr_http.specs.declared.lead.Lead.TheVariants as leads
 
 -- what is always so between two requests
 pub record IsReady (intake : Intake) : Type 0 where
-  pub room : 21846 ≤ length intake.spans.items
   pub placed : intake.at + length intake.buffer ≡ intake.total
   pub spent : intake.total ≤ max_read
   pub within : intake.scanned ≤ length intake.buffer

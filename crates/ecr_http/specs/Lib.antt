@@ -1,4 +1,5 @@
 pub mod Spans
+pub mod Lines
 pub mod Sends
 pub mod Intakes
 pub mod Takings

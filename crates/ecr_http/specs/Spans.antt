@@ -3,12 +3,8 @@ use Rattle.std.specs.Prelude.{ℕ, List, map}
 use Rattle.httparse.specs.declared.spans.HeaderSpan.{HeaderSpan}
 use Rattle.httparse.specs.declared.spans.RequestSpans.{RequestSpans}
 use Rattle.httparse.specs.Spans.{span_bytes}
-use Rattle.ecr_model.specs.declared.http.Field.{Field}
+use Rattle.ecr_model.specs.FieldLines.{field_at}
 use Rattle.ecr_model.specs.declared.http.Head.{Head}
-
--- the field at those spans
-abbrev pub field_at : List ℕ → HeaderSpan → Field
-field_at head span = record { name = span_bytes head span.name; value = span_bytes head span.value }
 
 -- the head at those spans
 abbrev pub head_at : List ℕ → RequestSpans → List HeaderSpan → Head

@@ -1,38 +1,16 @@
-// The field lines of a head (RFC 9112, section 5; RFC 9110, section 5.1).
+// What the values of fields say (RFC 9110, sections 5.6.1 and 7.6.1).
 ghost use Rattle.std.specs.Prelude.{◌≡◌, option_map, take, drop};
 ghost use Rattle.std.specs.List.{list_all, before_first};
 ghost use Rattle.httparse.specs.Grammar.{is_ows, skip_ows};
 ghost use Rattle.ecr_model.specs.Fields.{has_name, count_of, first_value, each_is, first_says, is_comma, begins_close, has_later_close, has_close};
 
-use ecr_model::Field;
-
-/// How many fields have the name.
-pub(crate) fn count_of(fields: &[Field], name: &[u8]) -> usize
-    ensures { result ≡ count_of name.now fields.now }
-{
-    fields.iter().filter(|field| has_name(*field, name)).count()
-}
-
-/// The value of the first field of the name.
-pub fn first_value<'a>(fields: &'a [Field], name: &[u8]) -> Option<&'a [u8]>
-    ensures { option_map (λ v. v.now) result ≡ first_value name.now fields.entry.now }
-{
-    let field = fields.iter().find(|field| has_name(*field, name))?;
-    Some(field.value.as_bytes())
-}
-
-/// Whether each field of the name has the value.
-pub(crate) fn each_is(fields: &[Field], name: &[u8], value: &[u8]) -> bool
-    ensures { result ≡ each_is name.now value.now fields.now }
-{
-    fields.iter().all(|field| !has_name(field, name) || field.value.as_bytes() == value)
-}
+use ecr_model::Fields;
 
 /// Whether the first field of the name has the value, letter case aside.
-pub(crate) fn first_says(fields: &[Field], name: &[u8], text: &[u8]) -> bool
+pub(crate) fn first_says(fields: &Fields, name: &[u8], text: &[u8]) -> bool
     ensures { result ≡ first_says name.now text.now fields.now }
 {
-    match first_value(fields, name) {
+    match fields.first_value(name) {
         Some(value) => value.eq_ignore_ascii_case(text),
         None => false,
     }
@@ -128,11 +106,4 @@ fn is_comma(byte: u8) -> bool
     ensures { result ≡ is_comma byte }
 {
     byte == b','
-}
-
-/// Whether the field has the name. Names are compared without letter case.
-fn has_name(field: &Field, name: &[u8]) -> bool
-    ensures { result ≡ has_name name.now field.now }
-{
-    field.name.as_bytes().eq_ignore_ascii_case(name)
 }

@@ -10,8 +10,8 @@ ghost use Rattle.ecr_model.specs.Framing.{path_of, max_body, is_length, stated_b
 ghost use Rattle.ecr_model.specs.Stream.{closes};
 ghost use Rattle.ecr_http.specs.Bodies.{FitsLimit};
 
-use crate::fields::{count_of, each_is, first_says, first_value, has_close};
-use ecr_model::{Field, Framing, Head, Request};
+use crate::fields::{first_says, has_close};
+use ecr_model::{Fields, Framing, Head, Request};
 
 /// The greatest length of a body, below `/v2/` and elsewhere (of this registry).
 const MAX_BLOB_BODY: u64 = 536_870_912;
@@ -27,18 +27,18 @@ pub(crate) fn framing_of(head: &Head) -> Option<Framing>
     ensures { result ≡ framing_of head.now }
 {
     if has_its_host(head) {
-        delimited_by(head.fields.as_slice())
+        delimited_by(&head.fields)
     } else {
         None
     }
 }
 
 /// How the body is delimited, by Transfer-Encoding where it stands, else by Content-Length.
-fn delimited_by(fields: &[Field]) -> Option<Framing>
+fn delimited_by(fields: &Fields) -> Option<Framing>
     ensures { result ≡ delimited_by fields.now }
 {
-    if count_of(fields, b"transfer-encoding") == 0 {
-        let size = stated_by(fields, first_value(fields, b"content-length"))?;
+    if fields.count_of(b"transfer-encoding") == 0 {
+        let size = stated_by(fields, fields.first_value(b"content-length"))?;
         return Some(Framing::Sized(size));
     }
     if is_chunked(fields) {
@@ -49,19 +49,19 @@ fn delimited_by(fields: &[Field]) -> Option<Framing>
 }
 
 /// Whether there is one transfer coding, `chunked`, letter case aside, and no stated length (RFC 9112, section 6.1).
-fn is_chunked(fields: &[Field]) -> bool
+fn is_chunked(fields: &Fields) -> bool
     ensures { result ≡ is_chunked fields.now }
 {
-    count_of(fields, b"transfer-encoding") == 1
+    fields.count_of(b"transfer-encoding") == 1
         && first_says(fields, b"transfer-encoding", b"chunked")
-        && count_of(fields, b"content-length") == 0
+        && fields.count_of(b"content-length") == 0
 }
 
 /// A request of HTTP/1.1 has exactly one Host (RFC 9112, section 3.2).
 fn has_its_host(head: &Head) -> bool
     ensures { result ≡ has_its_host head.now }
 {
-    head.minor != 1 || count_of(head.fields.as_slice(), b"host") == 1
+    head.minor != 1 || head.fields.count_of(b"host") == 1
 }
 
 /// Whether the client waits for a 100 before it sends the body (RFC 9110, section 10.1.1).
@@ -69,9 +69,7 @@ fn has_its_host(head: &Head) -> bool
 pub(crate) fn waits(head: &Head) -> bool
     ensures { result ≡ waits head.now }
 {
-    head.minor == 1
-        && first_says(head.fields.as_slice(), b"expect", b"100-continue")
-        && has_body(head)
+    head.minor == 1 && first_says(&head.fields, b"expect", b"100-continue") && has_body(head)
 }
 
 /// Whether there is a body within the limit.
@@ -109,7 +107,7 @@ pub(crate) fn fits_limit(framing: Framing, limit: u64) -> bool
 pub fn closes(request: &Request) -> bool
     ensures { result ≡ closes request.now }
 {
-    request.minor == 0 || says_close(first_value(request.fields.as_slice(), b"connection"))
+    request.minor == 0 || says_close(request.fields.first_value(b"connection"))
 }
 
 fn says_close(words: Option<&[u8]>) -> bool
@@ -154,11 +152,11 @@ fn front_of(path: &[u8]) -> &[u8]
 }
 
 /// The length that Content-Length states, which may be repeated unchanged; 0 without it.
-fn stated_by(fields: &[Field], stated: Option<&[u8]>) -> Option<u64>
+fn stated_by(fields: &Fields, stated: Option<&[u8]>) -> Option<u64>
     ensures { result ≡ stated_by fields.now (option_map (λ v. v.now) stated.entry) }
 {
     let Some(text) = stated else { return Some(0) };
-    if each_is(fields, b"content-length", text) && is_length(text) {
+    if fields.each_is(b"content-length", text) && is_length(text) {
         Some(value_of(text))
     } else {
         None

@@ -1,19 +1,18 @@
 // A request's head: where it ends, and what it says.
-ghost use Rattle.std.specs.Prelude.{◌≡◌, ◌≤◌, length, map, All, IfOk};
-ghost use Rattle.httparse.specs.Spans.{IsHeaderWithin, IsWithin, span_bytes};
+ghost use Rattle.std.specs.Prelude.{◌≡◌, ◌≤◌, length, IfOk};
+ghost use Rattle.httparse.specs.Spans.{IsWithin, span_bytes};
 ghost use Rattle.ecr_model.specs.Framing.{max_head, ends_empty, HasNoEnd, EndsAt, Parses};
-ghost use Rattle.ecr_http.specs.Spans.{field_at, head_at};
+ghost use Rattle.ecr_http.specs.Spans.{head_at};
+ghost use Rattle.ecr_http.specs.Lines.{IsNextLine, line_count};
 
-use ecr_model::{Field, Head, Listed, Mem, Text};
+use ecr_model::{Fields, Head, Mem, Text};
 use httparse::Status;
-use httparse::spans::{HeaderSpan, RequestSpans, Span, parse_request};
+use httparse::spans::{EMPTY_HEADER_SPAN, HeaderSpan, RequestSpans, Span, parse_request};
+use memchr::{memchr, memchr_iter};
 use std::alloc::Global;
 
 /// The greatest length of a head, in bytes.
 pub const MAX_HEAD: usize = 65_536;
-
-/// More fields than a head of [`MAX_HEAD`] bytes can have, since each has 3 bytes at least.
-pub const MAX_FIELDS: usize = 21_846;
 
 // Whether the first `n` bytes end with an empty line.
 #[tactic(auto, unfolding(ecr_model::specs::Framing::ends_empty))]
@@ -44,12 +43,28 @@ pub(crate) fn find_end_within(bytes: &[u8], from: usize, limit: usize) -> Option
     ensures { EndsAt limit bytes.now result }
 {
     let last = bytes.len().min(limit);
-    for n in from + 1..last + 1 {
+    let mut looked = from;
+    while looked < last {
+        let Some(n) = next_line(bytes, looked, last) else {
+            return None;
+        };
         if ends_empty(bytes, n) {
             return Some(n);
         }
+        looked = n;
     }
     None
+}
+
+// Where the first line ends that ends behind the first `from` bytes and within the first `to`.
+fn next_line(bytes: &[u8], from: usize, to: usize) -> Option<usize>
+    requires { (from ≤ to) × (to ≤ length bytes.now) }
+    ensures { IsNextLine bytes.now from to result }
+{
+    match memchr(b'\n', &bytes[from..to]) {
+        Some(at) => Some(from + at + 1),
+        None => None,
+    }
 }
 
 fn text_at(alloc: Global, head: &[u8], span: Span) -> Result<Text, Mem>
@@ -59,25 +74,11 @@ fn text_at(alloc: Global, head: &[u8], span: Span) -> Result<Text, Mem>
     Text::copy_of(alloc, span.of(head))
 }
 
-fn field_from(alloc: Global, head: &[u8], span: HeaderSpan) -> Result<Field, Mem>
-    requires { IsHeaderWithin (length head.now) span }
-    ensures { IfOk result (λ f. f ≡ field_at head.now span) }
+// How many lines end in the bytes, which is no less than the number of their fields.
+fn count_lines(bytes: &[u8]) -> usize
+    ensures { result ≡ line_count bytes.now }
 {
-    let name = text_at(alloc, head, span.name)?;
-    let value = text_at(alloc, head, span.value)?;
-    Ok(Field { name, value })
-}
-
-fn fields_from(alloc: Global, head: &[u8], spans: &[HeaderSpan]) -> Result<Vec<Field>, Mem>
-    requires { All (IsHeaderWithin (length head.now)) spans.now }
-    ensures { IfOk result (λ v. v.items ≡ map (field_at head.now) spans.now) }
-{
-    let mut fields = Vec::with_capacity(alloc, spans.len())?;
-    for span in spans {
-        let field = field_from(alloc, head, *span)?;
-        fields.push(field)?;
-    }
-    Ok(fields)
+    memchr_iter(b'\n', bytes).count()
 }
 
 // The head that was read of these bytes, by its parts.
@@ -85,40 +86,36 @@ fn head_from(
     alloc: Global,
     bytes: &[u8],
     parts: &RequestSpans,
-    spans: &[HeaderSpan],
+    places: Vec<HeaderSpan>,
 ) -> Result<Head, Mem>
     requires method { IsWithin (length bytes.now) parts.now.method }
     requires target { IsWithin (length bytes.now) parts.now.path }
-    requires fields { All (IsHeaderWithin (length bytes.now)) spans.now }
-    ensures { IfOk result (λ h. h ≡ head_at bytes.now parts.now spans.now) }
+    ensures { IfOk result (λ h. h ≡ head_at bytes.now parts.now places.items) }
 {
     let method = text_at(alloc, bytes, parts.method)?;
     let target = text_at(alloc, bytes, parts.path)?;
-    let fields = fields_from(alloc, bytes, spans)?;
+    let head = Vec::from_slice(alloc, bytes)?;
     Ok(Head {
         method,
         target,
         minor: parts.version,
-        fields: Listed::from_vec(fields),
+        fields: Fields::new(head, places),
     })
 }
 
-/// Reads these bytes as a head, which they must be as a whole; none, if they aren't one.
-pub(crate) fn parse_head(
-    alloc: Global,
-    bytes: &[u8],
-    spans: &mut [HeaderSpan],
-) -> Result<Option<Head>, Mem>
-    requires short { length bytes.now ≤ 65536 }
-    requires room { 21846 ≤ length spans.old }
+/// Reads these bytes as a head, which they must be as a whole; none, if they aren't one. The fields take room for as many
+/// as there are lines.
+pub(crate) fn parse_head(alloc: Global, bytes: &[u8]) -> Result<Option<Head>, Mem>
     ensures { IfOk result (λ head. Parses bytes.now head) }
 {
-    match parse_request(bytes, spans) {
+    let mut places = vec![in alloc; EMPTY_HEADER_SPAN; count_lines(bytes)]?;
+    match parse_request(bytes, &mut places) {
         Ok(Status::Complete(parts)) => {
             if parts.len != bytes.len() {
                 return Ok(None);
             }
-            let head = head_from(alloc, bytes, &parts, &spans[..parts.headers])?;
+            places.truncate(parts.headers);
+            let head = head_from(alloc, bytes, &parts, places)?;
             Ok(Some(head))
         }
         Ok(Status::Partial) => Ok(None),

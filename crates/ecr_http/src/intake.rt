@@ -4,7 +4,6 @@ ghost use Rattle.ecr_http.specs.Takings.{Takes};
 
 use crate::buffer::{Buffer, PIECE};
 use ecr_outside::{Got, Source};
-use httparse::spans::HeaderSpan;
 
 /// The most bytes that a reader takes from its source.
 pub(crate) const MAX_READ: u64 = 1 << 40;
@@ -20,8 +19,6 @@ pub struct Intake {
     pub total: u64,
     /// No empty line ends in the first so many bytes of the buffer.
     pub scanned: usize,
-    /// The room in which a head's fields are found.
-    pub spans: Vec<HeaderSpan>,
 }
 
 /// Why no more bytes come.

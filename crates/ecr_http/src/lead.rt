@@ -80,15 +80,12 @@ impl Intake {
     }
 
     // The head of the first `count` bytes.
-    fn parse(&mut self, alloc: Global, count: usize) -> Lead
-        requires room { 21846 ≤ length self.old.spans.items }
-        requires ends { IsEnd max_head self.old.buffer count }
-        ensures shows { (left : Option (List ℕ)) → Shows self.old.buffer self.old.total left result }
-        ensures kept { self.new ≡ record self.old { spans = self.new.spans } }
-        ensures room { 21846 ≤ length self.new.spans.items }
+    fn parse(&self, alloc: Global, count: usize) -> Lead
+        requires ends { IsEnd max_head self.now.buffer count }
+        ensures shows { (left : Option (List ℕ)) → Shows self.now.buffer self.now.total left result }
         ensures no_fault { result ≢ lead.Stopped Stop.Failed }
     {
-        match parse_head(alloc, &self.buffer.as_slice()[..count], &mut self.spans) {
+        match parse_head(alloc, &self.buffer.as_slice()[..count]) {
             Err(_) => Lead::Stopped(Stop::Mem),
             Ok(None) => Lead::Bad,
             Ok(Some(head)) => Lead::Head(head, count),

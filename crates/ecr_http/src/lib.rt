@@ -9,6 +9,7 @@ mod body;
 mod buffer;
 mod chunk_line;
 mod chunks;
+mod empty;
 mod events;
 mod fields;
 mod framing;
@@ -20,8 +21,8 @@ mod reader;
 mod reply;
 mod write;
 
+pub use empty::{connection_line, write_empty};
 pub use events::Event;
-pub use fields::first_value;
 pub use framing::{closes, path_of};
 pub use reader::Reader;
 pub use reply::HttpReply;

@@ -15,7 +15,6 @@ use crate::lead::Lead;
 use crate::write::{Sent, send};
 use ecr_model::{Framing, Head, Mem, Request, Text};
 use ecr_outside::{Sink, Source};
-use httparse::spans::EMPTY_HEADER_SPAN;
 use std::alloc::Global;
 
 impl Intake {
@@ -30,18 +29,16 @@ impl Intake {
     ghost use Rattle.std.specs.Prelude.{[], false};
 
     /// Nothing was read.
-    pub(crate) fn new(alloc: Global) -> Result<Intake, Mem>
-        ensures ready { IfOk result IsReady }
-        ensures empty { IfOk result (λ r. point_of r false ≡ start []) }
+    pub(crate) fn new(alloc: Global) -> Intake
+        ensures ready { IsReady result }
+        ensures empty { point_of result false ≡ start [] }
     {
-        let spans = vec![in alloc; EMPTY_HEADER_SPAN; 21_846]?;
-        Ok(Intake {
+        Intake {
             buffer: Buffer::new(alloc),
             at: 0,
             total: 0,
             scanned: 0,
-            spans,
-        })
+        }
     }
 
     /// What comes next of the source.

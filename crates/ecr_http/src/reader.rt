@@ -40,9 +40,8 @@ impl Reader {
     pub fn new(alloc: Global) -> Result<Reader, Mem>
         ensures { IfOk result (λ r. r ≡ start []) }
     {
-        let intake = Intake::new(alloc)?;
         Ok(Reader {
-            intake,
+            intake: Intake::new(alloc),
             closed: false,
         })
     }

@@ -1,3 +1,4 @@
+pub mod FieldLemmas
 pub mod NamesLemmas
 pub mod DigestsLemmas
 pub mod SitesLemmas

@@ -5,7 +5,7 @@ use Rattle.std.specs.Option.{option_map_or}
 use Rattle.std.specs.Str.{str_eq_ignore_ascii_case}
 use Rattle.httparse.specs.Grammar.{RequestHead, field_value, is_ows, skip_ows}
 use Rattle.httparse.specs.Grammar as grammar
-use Rattle.ecr_model.specs.declared.http.Field.{Field}
+use Rattle.ecr_model.specs.FieldLines.{Field}
 use Rattle.ecr_model.specs.declared.http.Head.{Head}
 
 -- a field line: its name as it came, and its value without the white space around it

@@ -6,7 +6,7 @@ use Rattle.std.specs.Option.{option_map_or}
 use Rattle.std.specs.Char.{is_ascii_digit}
 use Rattle.std.specs.Str.Parse.{digits_value}
 use Rattle.httparse.specs.Grammar.{RequestHead, ReadsRequest}
-use Rattle.ecr_model.specs.declared.http.Field.{Field}
+use Rattle.ecr_model.specs.FieldLines.{Field}
 use Rattle.ecr_model.specs.declared.http.Head.{Head}
 use Rattle.ecr_model.specs.declared.http.Framing.{Framing}
 use Rattle.ecr_model.specs.declared.http.Framing.TheVariants.{Sized, Chunked}

@@ -1,4 +1,5 @@
 pub mod Texts
+pub mod FieldLines
 pub mod Fields
 pub mod Framing
 pub mod Fronts

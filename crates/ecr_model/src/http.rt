@@ -1,13 +1,5 @@
 // What was read of a request (RFC 9112).
-use crate::{Listed, Text};
-
-/// A field line of a head: its name as it came, and its value without the spaces and tabs around it
-/// (RFC 9112, section 5).
-#[derive(Drop)]
-pub struct Field {
-    pub name: Text,
-    pub value: Text,
-}
+use crate::{Fields, Text};
 
 /// The head of a request (RFC 9112, sections 3 and 5).
 #[derive(Drop)]
@@ -16,7 +8,7 @@ pub struct Head {
     pub target: Text,
     /// The minor version, `1` for HTTP/1.1.
     pub minor: u8,
-    pub fields: Listed<Field>,
+    pub fields: Fields,
 }
 
 /// How the body of a request is delimited (RFC 9112, section 6.3).
@@ -35,7 +27,7 @@ pub struct Request {
     pub at: u64,
     pub method: Text,
     pub target: Text,
-    pub fields: Listed<Field>,
+    pub fields: Fields,
     /// The bytes behind the head, without what delimits them.
     pub body: Text,
     /// The minor version, `1` for HTTP/1.1.

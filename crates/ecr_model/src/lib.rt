@@ -8,6 +8,7 @@ mod api_laws;
 mod call;
 mod crossing;
 mod directory;
+mod fields;
 mod http;
 mod images;
 mod journal;
@@ -31,7 +32,8 @@ pub use api_laws::{bodies_are_read, replies_are_written};
 pub use call::{Call, ImageId, Page, Put, SiteCall, TagStatus};
 pub use crossing::answers_cross_threads;
 pub use directory::{Configuration, Directory, Registered, ReplicationRule};
-pub use http::{Field, Framing, Head, Request};
+pub use fields::Fields;
+pub use http::{Framing, Head, Request};
 pub use images::{Borne, BorneLayer, CopyFacts, Marked, PreviewRow, Row};
 pub use journal::{Act, CellJournal, CellKey, Entry, Frame, Limits, Line, Place};
 pub use journal_laws::{

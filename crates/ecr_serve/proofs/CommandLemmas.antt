@@ -1,5 +1,5 @@
 -- What a command says of its words' readings and of its end.
-use Rattle.std.proofs.Common.{◌≡◌, ℕ, List, [], Option, refl, sym, ap, ◌∙◌, subst}
+use Rattle.std.proofs.Common.{◌≡◌, ℕ, List, [], Option, sym, ap, ◌∙◌, subst}
 use Rattle.ecr_model.specs.declared.journal.Place.{Place}
 use Rattle.ecr_model.specs.declared.journal.Limits.{Limits}
 use Rattle.ecr_model.specs.declared.names.SiteId.{SiteId}
@@ -8,8 +8,8 @@ use Rattle.ecr_model.specs.declared.outcome.End.{End}
 use Rattle.ecr_model.specs.declared.outcome.End.TheVariants as ends
 use Rattle.ecr_model.specs.Commands.{IsSession, RunsSession, SaysUsage, fresh_session}
 use Rattle.ecr_model.specs.Limits.{standard}
-use Rattle.ecr_model.specs.Scripts.{Realm, World, fresh}
-use Rattle.ecr_model.specs.Sessions.{Account, Outside, Setting, Serves}
+use Rattle.ecr_model.specs.Scripts.{World, fresh}
+use Rattle.ecr_model.specs.Sessions.{Outside, Serves}
 use Rattle.ecr_model.proofs.CommandLemmas.{IsSession-unique}
 use Rattle.ecr_desk.specs.Desks.{Seen}
 use Rattle.ecr_session.proofs.ServingLemmas.{Serves-nothing}

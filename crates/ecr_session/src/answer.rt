@@ -4,7 +4,7 @@ ghost use Rattle.ecr_api.specs.Readings.{NamesNoPart, Reads, meaning};
 ghost use Rattle.ecr_http.specs.Replies.{reply_bytes};
 ghost use Rattle.ecr_model.specs.Actions.{asks, reading};
 ghost use Rattle.ecr_model.specs.Posed.{api, base_of, is_json_call, posed_of, posed_script, target_of};
-ghost use Rattle.ecr_model.specs.Replies.{connection_line, empty_reply};
+ghost use Rattle.ecr_model.specs.Replies.{empty_reply};
 ghost use Rattle.ecr_model.specs.Requests.{asked_script, of_site};
 ghost use Rattle.ecr_model.specs.Stream.{closes};
 ghost use Rattle.ecr_session.specs.Serving.{Answers, cut_of};
@@ -16,12 +16,9 @@ use crate::turns::{call_at, site_at};
 use ecr_api::{ApiRefusal, Asked, read_call, write_refused, write_reply};
 use ecr_blob_upload::Load;
 use ecr_desk::StillDesk;
-use ecr_http::{HttpReply, closes, first_value, path_of};
+use ecr_http::{HttpReply, closes, path_of, write_empty};
 use ecr_model::{Call, Cut, Mem, Moment, Place, Refusal, Reply, Request, SiteId, SiteReply};
 use std::alloc::Global;
-
-/// Room for the head of a reply without a body.
-const HEAD_ROOM: usize = 128;
 
 /// The answer to a request.
 #[derive(Drop)]
@@ -108,7 +105,7 @@ fn read_request(alloc: Global, served: &[SiteId], request: &Request) -> Result<A
     ensures exact { Reads result (reading (target_of request.now) request.now.body (base_of served.now request.now) served.now) }
     ensures plain { IfErr result NamesNoPart }
 {
-    let host = first_value(request.fields.as_slice(), b"host");
+    let host = request.fields.first_value(b"host");
     let base = site_for(served, host);
     read_call(
         alloc,
@@ -123,7 +120,7 @@ fn read_request(alloc: Global, served: &[SiteId], request: &Request) -> Result<A
 fn target_of(request: &Request) -> &[u8]
     ensures { result.now ≡ target_of request.now }
 {
-    match first_value(request.fields.as_slice(), b"x-amz-target") {
+    match request.fields.first_value(b"x-amz-target") {
         Some(value) => value,
         None => b"",
     }
@@ -204,33 +201,5 @@ fn of_site(reply: SiteReply) -> Reply
 fn write_not_found(alloc: Global, close: bool) -> Result<HttpReply, Mem>
     ensures { IfOk result (λ r. reply_bytes r ≡ empty_reply close (codes "404 Not Found")) }
 {
-    let head = write_empty(alloc, close, "404 Not Found")?;
-    Ok(HttpReply {
-        head,
-        body: Vec::new(alloc),
-        tail: Vec::new(alloc),
-    })
-}
-
-// The head of a reply without a body.
-#[tactic(auto, unfolding(ecr_model::specs::Replies::empty_reply))]
-fn write_empty(alloc: Global, close: bool, status: &str) -> Result<Vec<u8>, Mem>
-    ensures { IfOk result (λ v. v.items ≡ empty_reply close status.now) }
-{
-    let mut head = Vec::with_capacity(alloc, HEAD_ROOM)?;
-    head.extend_from_slice(b"HTTP/1.1 ")?;
-    head.extend_from_slice(status.as_bytes())?;
-    head.extend_from_slice(b"\r\n")?;
-    head.extend_from_slice(connection_line(close))?;
-    head.extend_from_slice(b"Content-Length: 0")?;
-    head.extend_from_slice(b"\r\n")?;
-    head.extend_from_slice(b"\r\n")?;
-    Ok(head)
-}
-
-// The header of a reply after which the session closes (RFC 9112, section 9.6).
-fn connection_line(close: bool) -> &'static [u8]
-    ensures { result.now ≡ connection_line close }
-{
-    if close { b"Connection: close\r\n" } else { b"" }
+    write_empty(alloc, close, "404 Not Found")
 }

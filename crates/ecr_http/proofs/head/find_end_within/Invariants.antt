@@ -1,6 +1,9 @@
-use Rattle.std.proofs.Common.{◌≡◌, ℕ, ◌<◌, false}
-use Rattle.ecr_model.specs.Framing.{ends_empty}
+use Rattle.std.proofs.Common.{◌≤◌, ◌-◌, length}
+use Rattle.ecr_model.specs.Framing.{HasNoEnd}
 use Rattle.ecr_http.proofs.head.find_end_within.Given as goal
 
-abbrev pub invariant-loop-n : goal.invariant-loop-n
-invariant-loop-n l = (k : ℕ) → k < l.n → ends_empty l.bytes k ≡ false
+abbrev pub invariant-loop-looked : goal.invariant-loop-looked
+invariant-loop-looked l = (l.looked ≤ length l.bytes) × HasNoEnd l.bytes l.looked
+
+abbrev pub decreases-loop-looked : goal.decreases-loop-looked
+decreases-loop-looked l = length l.bytes - l.looked

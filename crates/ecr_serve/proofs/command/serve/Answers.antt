@@ -1,4 +1,4 @@
-use Rattle.std.proofs.Common.{◌≡◌, ◌∙◌, map}
+use Rattle.std.proofs.Common.{◌∙◌, map}
 use Rattle.ecr_cells.specs.Desks.{seen_of}
 use Rattle.ecr_serve.proofs.CommandLemmas.{RunsSession-nothing, RunsSession-over, RunsSession-told, fresh-seen}
 use Rattle.ecr_serve.proofs.command.serve.Goals as goal

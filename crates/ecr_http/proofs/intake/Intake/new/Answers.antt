@@ -1,8 +1,6 @@
-use Rattle.std.proofs.Common.{refl, arith}
+use Rattle.std.proofs.Common.{refl}
 use Rattle.ecr_http.proofs.LeadLemmas.{IsReady-fresh}
 use Rattle.ecr_http.proofs.intake.Intake.new.Goals as goal
 
 pub returns-clause-ready : goal.returns-clause-ready
-returns-clause-ready c =
-    let many = c.in_ok-spans.ensures.len in
-    IsReady-fresh _ c.new.ensures refl refl refl (omega arith)
+returns-clause-ready c = IsReady-fresh _ c.new.ensures refl refl refl

@@ -1,6 +1,6 @@
 use Rattle.std.proofs.Common.{refl}
 use Rattle.ecr_model.specs.Replies.{connection_line}
-use Rattle.ecr_session.proofs.answer.connection_line.Goals as goal
+use Rattle.ecr_http.proofs.empty.connection_line.Goals as goal
 
 pub returns-then-close : goal.returns-then-close
 unfolding connection_line
