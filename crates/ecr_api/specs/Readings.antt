@@ -7,7 +7,7 @@ use Rattle.ecr_model.specs.declared.refusal.Parameter.{Parameter}
 use Rattle.ecr_model.specs.declared.refusal.Parameter.TheVariants.{MaxResults, Manifest, Policy}
 use Rattle.ecr_model.specs.Actions as actions
 use Rattle.ecr_model.specs.Members.{number_in, value_of}
-use Rattle.ecr_blob_upload.specs.Loads.{given}
+use Rattle.ecr_blob_upload.specs.Loads.{FitsCall, given}
 use Rattle.ecr_errors.specs.Parts.{HasItsUpload}
 use Rattle.ecr_api.specs.declared.asked.ApiRefusal.{ApiRefusal}
 use Rattle.ecr_api.specs.declared.asked.ApiRefusal.TheVariants.{Refused, Mem}
@@ -19,6 +19,12 @@ abbrev pub meaning : Asked → actions.Asked
 meaning (Cell key call load) = actions.cell key call (given load)
 meaning (Site site call) = actions.site site call
 meaning (Many site names page) = actions.many site names page
+
+-- what comes with it is such as its call has
+abbrev pub LoadFits : Asked → Type 0
+LoadFits (Cell key call load) = FitsCall call load
+LoadFits (Site site call) = Unit {0}
+LoadFits (Many site names page) = Unit {0}
 
 -- the reading asks for this, or refuses the body like that; of a want of memory nothing is said
 abbrev pub Reads : Result Asked ApiRefusal → actions.Reading → Type 0

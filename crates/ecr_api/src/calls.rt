@@ -1,11 +1,12 @@
 // The call that the members of a body make (Amazon ECR API Reference, "Actions").
 ghost use Rattle.std.specs.Prelude.{◌≡◌, IfOk, None, map, option_map, unwrap_or};
 ghost use Rattle.serde_json.specs.View.{view, items_view};
-ghost use Rattle.ecr_model.specs.Actions as actions;
 ghost use Rattle.ecr_model.specs.Actions.{asked_by, force_in, key_in, members_of, mutability_in, names_in, page_in, site_in, text_at};
 ghost use Rattle.ecr_model.specs.Members.{first_bad};
 ghost use Rattle.ecr_model.specs.Policies.{texts_of};
-ghost use Rattle.ecr_api.specs.Readings.{meaning, IsMember, IsPage};
+ghost use Rattle.ecr_blob_upload.specs.declared.call.Load.TheVariants.{Nothing};
+ghost use Rattle.ecr_api.specs.declared.asked.Asked.TheVariants.{Cell, Many};
+ghost use Rattle.ecr_api.specs.Readings.{meaning, LoadFits, IsMember, IsPage};
 
 use crate::Asked;
 use crate::domains::{items_in, number_in, place_of, site_of, text_in};
@@ -30,7 +31,8 @@ pub(crate) fn asked_by(
     body: &Value,
 ) -> Result<Asked, Mem>
     requires { first_bad base.now served.now (members_of action) (view body.now) ≡ None }
-    ensures { IfOk result (λ asked. meaning asked ≡ asked_by base.now served.now action (view body.now)) }
+    ensures exact { IfOk result (λ asked. meaning asked ≡ asked_by base.now served.now action (view body.now)) }
+    ensures fits { IfOk result LoadFits }
 {
     match action {
         Action::CreateRepository => {
@@ -63,7 +65,7 @@ fn cell(
     body: &Value,
     call: Call,
 ) -> Result<Asked, Mem>
-    ensures { IfOk result (λ asked. meaning asked ≡ actions.cell (key_in base.now served.now (view body.now)) call None) }
+    ensures { IfOk result (λ asked. asked ≡ Cell (key_in base.now served.now (view body.now)) call Nothing) }
 {
     let key = key_in(alloc, base, served, body)?;
     Ok(Asked::Cell {
@@ -76,7 +78,7 @@ fn cell(
 /// The repositories of `repositoryNames`, or a page of all.
 fn many(alloc: Global, base: &SiteId, served: &[SiteId], body: &Value) -> Result<Asked, Mem>
     requires { IsPage (view body.now) }
-    ensures { IfOk result (λ asked. meaning asked ≡ (let d = view body.now in actions.many (site_in base.now served.now d) (names_in d) (page_in d))) }
+    ensures { IfOk result (λ asked. asked ≡ (let d = view body.now in Many (site_in base.now served.now d) (names_in d) (page_in d))) }
 {
     let site = site_in(base, served, body).clone()?;
     let names = names_in(alloc, body)?;

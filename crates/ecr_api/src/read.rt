@@ -4,7 +4,7 @@ ghost use Rattle.serde_json.specs.Read.{read};
 ghost use Rattle.serde_json.specs.View.{view};
 ghost use Rattle.ecr_model.specs.Actions.{body_reading, reading, typed_reading};
 ghost use Rattle.ecr_model.specs.Members.{document};
-ghost use Rattle.ecr_api.specs.Readings.{NamesNoPart, Reads};
+ghost use Rattle.ecr_api.specs.Readings.{LoadFits, NamesNoPart, Reads};
 
 use crate::actions::{action_of, members_of};
 use crate::calls::asked_by;
@@ -29,7 +29,8 @@ pub fn read_call(
 ) -> Result<Asked, ApiRefusal>
     ensures exact { Reads result (reading target.now body.now base.now served.now) }
 
-    // So its refusal can be written.
+    // So a desk can be asked for it, or its refusal written.
+    ensures fits { IfOk result LoadFits }
     ensures plain { IfErr result NamesNoPart }
 {
     match action_of(target) {
@@ -50,6 +51,7 @@ fn read_body(
     body: &Option<Value>,
 ) -> Result<Asked, ApiRefusal>
     ensures exact { Reads result (body_reading base.now served.now action (option_map view body.now)) }
+    ensures fits { IfOk result LoadFits }
     ensures plain { IfErr result NamesNoPart }
 {
     match body {
@@ -68,6 +70,7 @@ fn read_value(
     body: &Value,
 ) -> Result<Asked, ApiRefusal>
     ensures exact { Reads result (typed_reading base.now served.now action (view body.now)) }
+    ensures fits { IfOk result LoadFits }
     ensures plain { IfErr result NamesNoPart }
 {
     let members = members_of(action);

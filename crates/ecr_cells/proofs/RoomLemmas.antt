@@ -1,27 +1,16 @@
 -- The laws of a turn in a repository.
-use Rattle.std.proofs.Common.{◌≡◌, ℕ, Bool, List, [], Option, None, Some, is_some, option_map, if◌then◌else◌, refl, sym, ap, ◌∙◌, arith}
+use Rattle.std.proofs.Common.{◌≡◌, ℕ, Bool, [], Option, None, Some, is_some, option_map, if◌then◌else◌, refl, sym, ap, ◌∙◌, arith}
 use Rattle.ecr_model.specs.declared.call.Call.{Call}
-use Rattle.ecr_model.specs.declared.call.Call.TheVariants.{Create, Delete, Describe, SetMutability}
 use Rattle.ecr_model.specs.declared.journal.Act.TheVariants.{Called}
 use Rattle.ecr_model.specs.declared.journal.CellKey.TheVariants.{Repository}
-use Rattle.ecr_model.specs.declared.names.SiteId.{SiteId}
 use Rattle.ecr_model.specs.declared.reply.Reply.{Reply}
 use Rattle.ecr_model.specs.declared.repository.Repository as kept
 use Rattle.ecr_model.specs.Journals.{past}
 use Rattle.ecr_model.specs.Scripts.{Turned, call, replied, replies, plain_turn}
 use Rattle.ecr_model.specs.Steps.{first_state, step, after_line, IsSound, line_of}
 use Rattle.ecr_model.proofs.JournalLemmas.{the_last_is_now}
-use Rattle.ecr_blob_upload.specs.declared.call.Load.{Load}
-use Rattle.ecr_blob_upload.specs.declared.call.Load.TheVariants.{Nothing}
-use Rattle.ecr_repo.specs.States.{State, Fits, turn_at, outcome_of, reply_to, changes, after_call, with_entry}
+use Rattle.ecr_repo.specs.States.{State, turn_at, outcome_of, reply_to, changes, after_call, with_entry}
 use Rattle.ecr_cells.specs.Wards.{lines_after, place_after, room_now, IsRoomTurn}
-
--- a call has no content and no destinations
-pub Fits-bare : (c : Call) (load : Load) (destinations : List SiteId) → destinations ≡ [] → Fits c load destinations
-Fits-bare (Create mutability) Nothing destinations bare = (refl, bare)
-Fits-bare (Delete force) Nothing destinations bare = (refl, bare)
-Fits-bare Describe Nothing destinations bare = (refl, bare)
-Fits-bare (SetMutability mutability) Nothing destinations bare = (refl, bare)
 
 -- past all tickets of a sound journal a call is decided by what it leads to
 room_now-call : (s : State) (ticket moment : ℕ) (c : Call) → IsSound s.key s.limits s.journal → past s.journal ≡ ticket

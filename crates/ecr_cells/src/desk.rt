@@ -1,5 +1,6 @@
 // The desk of one caller in memory.
 ghost use Rattle.std.specs.Prelude.{◌≡◌, ◌∷◌, ◌+◌, ◌<◌, ◌≤◌, ◌^◌, [], None, Contains, IfOk, OnErr, if◌then◌else◌, vec_len, vec_capacity};
+ghost use Rattle.ecr_blob_upload.specs.Loads.{FitsCall};
 ghost use Rattle.ecr_model.specs.declared.journal.CellKey.TheVariants.{Directory, Repository};
 ghost use Rattle.ecr_model.specs.declared.reply.Reply.TheVariants as replies;
 ghost use Rattle.ecr_model.specs.Requests as scripts;
@@ -83,6 +84,7 @@ impl SoloDesk {
         told: First,
     ) -> Result<(Outcome, Option<Place>), Mem>
         requires served { Contains self.old.served key.now.site }
+        requires fits { FitsCall call.now load }
         requires room { self.old.made + 1 < 2 ^ 64 }
         ensures ran { IfOk result (λ t. Ran (seen_of self.old) (seen_of self.new) (scripts.then_cell key.now call.now moment (told_of told)) t.0.reply (places_of t.1)) }
         ensures blobs { IfOk result (λ t. t.0.blobs.items ≡ []) }
@@ -133,6 +135,7 @@ impl SoloDesk {
         moment: Moment,
     ) -> Result<(Outcome, Option<Place>), Mem>
         requires served { Contains self.old.served key.now.site }
+        requires fits { FitsCall call.now load }
         requires room { self.old.made + 1 < 2 ^ 64 }
         ensures ran { IfOk result (λ t. Ran (seen_of self.old) (seen_of self.new) (scripts.cell_turn key.now call.now moment) t.0.reply (places_of t.1)) }
         ensures blobs { IfOk result (λ t. t.0.blobs.items ≡ []) }
@@ -152,6 +155,7 @@ impl SoloDesk {
         moment: Moment,
     ) -> Result<(Outcome, Place), Mem>
         requires served { Contains self.old.served key.site }
+        requires fits { FitsCall call.now load }
         requires room { self.old.made + 1 < 2 ^ 64 }
         ensures took { IfOk result (λ t. Took (seen_of self.old) (seen_of self.new) (Repository key) (asks.call moment call.now) (replied t.0.reply) t.1) }
         ensures blobs { IfOk result (λ t. t.0.blobs.items ≡ []) }

@@ -1,5 +1,6 @@
 // A turn in a repository.
 ghost use Rattle.std.specs.Prelude.{◌≡◌, [], IfOk, OnOk, OnErr, length};
+ghost use Rattle.ecr_blob_upload.specs.Loads.{FitsCall};
 ghost use Rattle.ecr_model.specs.Journals.{past};
 ghost use Rattle.ecr_model.specs.Scripts as asks;
 ghost use Rattle.ecr_model.specs.Scripts.{replied};
@@ -73,6 +74,7 @@ pub(crate) fn change(
     moment: Moment,
 ) -> Result<(Outcome, Place), Mem>
     requires key { room.old.key ≡ key }
+    requires fits { FitsCall call.now load }
     requires numbered { past room.old.journal ≡ length room.old.journal }
     ensures turned { IfOk result (λ t. IsRoomTurn room.old room.new (asks.call moment call.now) (replied t.0.reply) t.1) }
     ensures blobs { IfOk result (λ t. t.0.blobs.items ≡ []) }
@@ -93,6 +95,7 @@ fn change_state(
     moment: Moment,
 ) -> Result<(Outcome, Place), Mem>
     requires key { room.old.key ≡ key }
+    requires fits { FitsCall call.now load }
     requires numbered { past room.old.journal ≡ length room.old.journal }
     ensures turned { IfOk result (λ t. IsRoomTurn room.old room.new (asks.call moment call.now) (replied t.0.reply) t.1) }
     ensures blobs { IfOk result (λ t. t.0.blobs.items ≡ []) }

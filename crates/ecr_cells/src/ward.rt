@@ -1,5 +1,6 @@
 // What is kept of a site.
 ghost use Rattle.std.specs.Prelude.{◌≡◌, [], false, None, IfOk, OnErr};
+ghost use Rattle.ecr_blob_upload.specs.Loads.{FitsCall};
 ghost use Rattle.ecr_model.specs.declared.journal.CellKey.TheVariants.{Directory, Repository};
 ghost use Rattle.ecr_model.specs.Scripts as asks;
 ghost use Rattle.ecr_model.specs.Scripts.{known, registered, listed, replied};
@@ -98,7 +99,8 @@ impl Ward {
         load: Load,
         moment: Moment,
     ) -> Result<(Outcome, Place), Mem>
-        requires { self.old.directory.site ≡ key.site }
+        requires at { self.old.directory.site ≡ key.site }
+        requires fits { FitsCall call.now load }
         ensures turned { IfOk result (λ t. IsTurn self.old self.new (Repository key) (asks.call moment call.now) (replied t.0.reply) t.1) }
         ensures blobs { IfOk result (λ t. t.0.blobs.items ≡ []) }
         ensures err { OnErr result (IsQuiet self.old self.new) }
@@ -119,6 +121,7 @@ impl Ward {
         moment: Moment,
     ) -> Result<(Outcome, Place), Mem>
         requires at { self.old.directory.site ≡ key.site }
+        requires fits { FitsCall call.now load }
         requires absent { room_at self.old.rooms key.name ≡ None }
         ensures turned { IfOk result (λ t. IsTurn self.old self.new (Repository key) (asks.call moment call.now) (replied t.0.reply) t.1) }
         ensures blobs { IfOk result (λ t. t.0.blobs.items ≡ []) }

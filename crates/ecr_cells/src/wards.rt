@@ -1,5 +1,6 @@
 // What is kept of all sites.
 ghost use Rattle.std.specs.Prelude.{◌≡◌, [], false, IfOk, OnOk, OnErr};
+ghost use Rattle.ecr_blob_upload.specs.Loads.{FitsCall};
 ghost use Rattle.ecr_model.specs.declared.journal.CellKey.TheVariants.{Directory, Repository};
 ghost use Rattle.ecr_model.specs.Scripts as asks;
 ghost use Rattle.ecr_model.specs.Scripts.{fresh, known, registered, listed, replied};
@@ -106,7 +107,8 @@ pub(crate) fn change(
     load: Load,
     moment: Moment,
 ) -> Result<(Outcome, Place), Mem>
-    requires { IsServed wards.old.entries key.site }
+    requires served { IsServed wards.old.entries key.site }
+    requires fits { FitsCall call.now load }
     ensures turned { IfOk result (λ t. Turns wards.old.entries wards.new.entries (Repository key) (asks.call moment call.now) (replied t.0.reply) t.1) }
     ensures blobs { IfOk result (λ t. t.0.blobs.items ≡ []) }
     ensures err { OnErr result (Rests wards.old.entries wards.new.entries key.site) }

@@ -1,5 +1,6 @@
 // The desk of one caller.
 ghost use Rattle.std.specs.Prelude.{◌≡◌, ◌∷◌, [], None, Contains, IfOk, OnErr};
+ghost use Rattle.ecr_blob_upload.specs.Loads.{FitsCall};
 ghost use Rattle.ecr_model.specs.Requests.{call_script, site_script};
 ghost use Rattle.ecr_desk.specs.Desks.{Seen, Ran, Stopped, entries_of, first_entries};
 
@@ -36,6 +37,7 @@ pub trait StillDesk {
         moment: Moment,
     ) -> Result<Answer, Mem>
         requires served { Contains (seen self.old).realm.served key.now.site }
+        requires fits { FitsCall call load }
         ensures ran { IfOk result (λ a. Ran (seen self.old) (seen self.new) (call_script key.now call moment) a.reply a.places.items) }
         ensures stopped { OnErr result (Stopped (seen self.old) (seen self.new) (call_script key.now call moment) (first_entries (seen self.old) key.now call)) }
         ensures plain { IfOk result (λ a. (a.blobs.items ≡ []) × (a.sealed ≡ None)) };

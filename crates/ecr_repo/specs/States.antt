@@ -11,7 +11,7 @@ use Rattle.ecr_model.specs.declared.reply.Reply.{Reply}
 use Rattle.ecr_model.specs.declared.repository.Repository.{Repository}
 use Rattle.ecr_model.specs.Steps.{Outcome, Turn, step, replay, line_of}
 use Rattle.ecr_blob_upload.specs.declared.call.Load.{Load}
-use Rattle.ecr_blob_upload.specs.declared.call.Load.TheVariants.{Nothing}
+use Rattle.ecr_blob_upload.specs.Loads.{FitsCall}
 
 -- a name at a site, the limits that hold there, and all that changed it, the first change first
 pub record State : Type 0 where
@@ -55,13 +55,6 @@ AnswersOnly (Delete force) = ⊥
 AnswersOnly Describe = Unit {0}
 AnswersOnly (SetMutability mutability) = ⊥
 
--- no content and no destinations
-abbrev pub IsBare : Load → List SiteId → Type 0
-IsBare load destinations = (load ≡ Nothing) × (destinations ≡ [])
-
--- the content and the destinations are such as the call has
+-- the content and the destinations are such as the call has; no call has destinations yet
 abbrev pub Fits : Call → Load → List SiteId → Type 0
-Fits (Create mutability) load destinations = IsBare load destinations
-Fits (Delete force) load destinations = IsBare load destinations
-Fits Describe load destinations = IsBare load destinations
-Fits (SetMutability mutability) load destinations = IsBare load destinations
+Fits call load destinations = FitsCall call load × (destinations ≡ [])

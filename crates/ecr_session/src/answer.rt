@@ -1,6 +1,6 @@
 // What a request is answered.
 ghost use Rattle.std.specs.Prelude.{◌≡◌, ◌<◌, codes, length, IfErr, IfOk, OnErr};
-ghost use Rattle.ecr_api.specs.Readings.{NamesNoPart, Reads, meaning};
+ghost use Rattle.ecr_api.specs.Readings.{LoadFits, NamesNoPart, Reads, meaning};
 ghost use Rattle.ecr_http.specs.Replies.{reply_bytes};
 ghost use Rattle.ecr_model.specs.Actions.{asks, reading};
 ghost use Rattle.ecr_model.specs.Posed.{api, base_of, is_json_call, posed_of, posed_script, target_of};
@@ -103,6 +103,7 @@ fn is_json_call(request: &Request) -> bool
 fn read_request(alloc: Global, served: &[SiteId], request: &Request) -> Result<Asked, ApiRefusal>
     requires { 0 < length served.now }
     ensures exact { Reads result (reading (target_of request.now) request.now.body (base_of served.now request.now) served.now) }
+    ensures fits { IfOk result LoadFits }
     ensures plain { IfErr result NamesNoPart }
 {
     let host = request.fields.first_value(b"host");
@@ -135,7 +136,8 @@ fn answer_asked<D: StillDesk>(
     close: bool,
     places: &mut Vec<Place>,
 ) -> Result<HttpReply, Mem>
-    requires { IsAskable (D.seen desk.old).realm.served (meaning asked.now) }
+    requires askable { IsAskable (D.seen desk.old).realm.served (meaning asked.now) }
+    requires fits { LoadFits asked.now }
     ensures replied { IfOk result (λ r. IsReplied (D.seen desk.old) (D.seen desk.new) (api (asks (meaning asked.now))) moment close r places.old.items places.new.items) }
     ensures stopped { OnErr result (StoppedWith (D.seen desk.old) (D.seen desk.new) (posed_script (api (asks (meaning asked.now))) moment) places.old.items places.new.items) }
 {
@@ -151,7 +153,8 @@ fn run_asked<D: StillDesk>(
     moment: Moment,
     places: &mut Vec<Place>,
 ) -> Result<Reply, Mem>
-    requires { IsAskable (D.seen desk.old).realm.served (meaning asked.now) }
+    requires askable { IsAskable (D.seen desk.old).realm.served (meaning asked.now) }
+    requires fits { LoadFits asked.now }
     ensures ran { IfOk result (λ r. RanWith (D.seen desk.old) (D.seen desk.new) (asked_script (meaning asked.now) moment) r places.old.items places.new.items) }
     ensures stopped { OnErr result (StoppedWith (D.seen desk.old) (D.seen desk.new) (asked_script (meaning asked.now) moment) places.old.items places.new.items) }
 {

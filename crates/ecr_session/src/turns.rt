@@ -1,5 +1,6 @@
 // Calls on a desk, whose places are kept. The room for a place is taken before its turn.
 ghost use Rattle.std.specs.Prelude.{◌≡◌, ◌++◌, Contains, IfOk, OnErr, OnOk};
+ghost use Rattle.ecr_blob_upload.specs.Loads.{FitsCall};
 ghost use Rattle.ecr_model.specs.Requests.{call_script, site_script};
 ghost use Rattle.ecr_session.specs.Turns.{RanWith, StoppedWith};
 
@@ -19,6 +20,7 @@ pub(crate) fn call_at<D: StillDesk>(
     places: &mut Vec<Place>,
 ) -> Result<Reply, Mem>
     requires served { Contains (D.seen desk.old).realm.served key.now.site }
+    requires fits { FitsCall call load }
     ensures ran { IfOk result (λ r. RanWith (D.seen desk.old) (D.seen desk.new) (call_script key.now call moment) r places.old.items places.new.items) }
     ensures stopped { OnErr result (StoppedWith (D.seen desk.old) (D.seen desk.new) (call_script key.now call moment) places.old.items places.new.items) }
 {

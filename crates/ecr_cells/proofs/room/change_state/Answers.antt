@@ -7,12 +7,12 @@ use Rattle.ecr_model.specs.Scripts.{replied}
 use Rattle.ecr_model.specs.Scripts as asks
 use Rattle.ecr_repo.specs.States.{State, turn_at, reply_to, changes, after_call}
 use Rattle.ecr_cells.specs.Wards.{IsRoomTurn, room_now}
-use Rattle.ecr_cells.proofs.RoomLemmas.{IsRoomTurn-call, Fits-bare}
+use Rattle.ecr_cells.proofs.RoomLemmas.{IsRoomTurn-call}
 use Rattle.ecr_cells.proofs.WardLemmas.{numbered-after}
 use Rattle.ecr_cells.proofs.room.change_state.Goals as goal
 
 pub change-requires-clause-fits : goal.change-requires-clause-fits
-change-requires-clause-fits c = Fits-bare c.args.call.now c.args.load c.new-nowhere.result.items c.new-nowhere.ensures.items
+change-requires-clause-fits c = (c.requires.fits, c.new-nowhere.ensures.items)
 
 pub returns-clause-turned : goal.returns-clause-turned
 returns-clause-turned c =

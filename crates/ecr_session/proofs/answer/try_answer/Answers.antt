@@ -20,8 +20,8 @@ returns-then-not-is_json_call-clause-replied g c =
 pub returns-then-not-is_json_call-clause-stopped : goal.returns-then-not-is_json_call-clause-stopped
 returns-then-not-is_json_call-clause-stopped g c = OnErr-always _ _ (StoppedWith-nothing _ _ _ _ refl)
 
-pub answer_asked-requires : goal.answer_asked-requires
-answer_asked-requires g c =
+pub answer_asked-requires-clause-askable : goal.answer_asked-requires-clause-askable
+answer_asked-requires-clause-askable g c =
     let served = (g.D.StillDesk.seen c.args.desk.now).realm.served in
     let request = c.args.request.now in
     let reads = subst (λ (s : List SiteId). reading (target_of request) request.body (base_of s request) s ≡ asks (meaning c.in-Ok.asked)) c.served.ensures.sites c.in-Ok.ensures.exact in

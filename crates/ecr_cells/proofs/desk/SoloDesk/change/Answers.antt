@@ -6,8 +6,8 @@ use Rattle.ecr_cells.specs.Desks.{Desk, Took, seen_of}
 use Rattle.ecr_cells.proofs.WorldLemmas.{IsServed-kept, AreKept-turns, AreKept-rests, seen_of-rests, Took-turns, on_err_any}
 use Rattle.ecr_cells.proofs.desk.SoloDesk.change.Goals as goal
 
-pub change-requires : goal.change-requires
-change-requires c =
+pub change-requires-clause-served : goal.change-requires-clause-served
+change-requires-clause-served c =
     let s = c.self.inside in
     IsServed-kept s.served s.limits s.wards.entries c.args.key.site c.self.invariant
     (subst (λ (d : Desk). Contains d.served c.args.key.site) (sym c.self.view_is) c.requires.served)

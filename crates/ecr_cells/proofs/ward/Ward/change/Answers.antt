@@ -35,7 +35,7 @@ returns-in-Some-clause-turned c =
     (λ t. IsTurn c.args.self.now after (Repository c.args.key) ask (replied t.0.reply) t.1)
     (λ t turn. subst (λ (h : Held). IsTurn h after (Repository c.args.key) ask (replied t.0.reply) t.1) c.self.view_is
     (IsTurn-room s.directory s.rooms.entries news c.args.key c.in-Some.room.now c.change.new.room ask (replied t.0.reply) t.1
-    (ap (λ (h : Held). h.directory.site) c.self.view_is ∙ c.requires) (room_lines-some s.rooms.entries name c.in-Some.room.now found) is puts turn))
+    (ap (λ (h : Held). h.directory.site) c.self.view_is ∙ c.requires.at) (room_lines-some s.rooms.entries name c.in-Some.room.now found) is puts turn))
     c.change.ensures.turned
 
 pub returns-in-Some-clause-err : goal.returns-in-Some-clause-err
