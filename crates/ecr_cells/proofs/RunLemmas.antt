@@ -1,5 +1,5 @@
 -- The turns of one caller as runs of scripts.
-use Rattle.std.proofs.Common.{◌≡◌, ℕ, true, false, List, [], ◌∷◌, ◌++◌, None, Some, refl, sym, ap, ◌∙◌, subst, arith}
+use Rattle.std.proofs.Common.{◌≡◌, ℕ, true, false, [], ◌∷◌, None, Some, refl, ap, subst, arith}
 use Rattle.ecr_model.specs.declared.call.Call.{Call}
 use Rattle.ecr_model.specs.declared.call.Call.TheVariants.{Create, Delete, Describe, SetMutability}
 use Rattle.ecr_model.specs.declared.call.SiteCall.{SiteCall}
@@ -14,11 +14,9 @@ use Rattle.ecr_model.specs.declared.refusal.Refusal.{Refusal}
 use Rattle.ecr_model.specs.declared.reply.Reply.{Reply}
 use Rattle.ecr_model.specs.declared.reply.Reply.TheVariants.{Refused}
 use Rattle.ecr_model.specs.declared.reply.SiteReply.{SiteReply}
-use Rattle.ecr_model.specs.Requests.{first_ask, first_turn, cell_turn, then_cell, call_script, site_script, reply_told, site_told}
-use Rattle.ecr_model.specs.Scripts.{Ask, Told, call, knows, register, site_call, listed, replied, Script, ends, turn, run}
-use Rattle.ecr_model.proofs.ScriptLemmas.{run_to-all, run_to-first, run_to-none}
-use Rattle.ecr_desk.specs.Desks.{Seen, first_entries, Ran, Stopped}
-use Rattle.ecr_desk.proofs.DeskLemmas.{Ran-then}
+use Rattle.ecr_model.specs.Requests.{first_ask, first_turn, cell_turn, then_cell, site_script, reply_told, site_told}
+use Rattle.ecr_model.specs.Scripts.{Ask, Told, call, knows, register, site_call, listed, replied, ends, turn, run}
+use Rattle.ecr_desk.specs.Desks.{Seen, Ran}
 use Rattle.ecr_cells.specs.declared.first.First.{First}
 use Rattle.ecr_cells.specs.declared.first.First.TheVariants as firsts
 use Rattle.ecr_cells.specs.Desks.{Took}
@@ -91,40 +89,3 @@ then_cell-ends key c moment (firsts.Known false) refusal is = cc
 then_cell-ends key c moment (firsts.Registered New) refusal is = cc
 then_cell-ends key c moment (firsts.Registered Known) refusal is = cc
 then_cell-ends key c moment (firsts.Registered (Full limit count)) refusal is = cc
-
--- ---- what stops
-
--- nothing was added
-pub Stopped-none : {A : Type 0} (before after : Seen) (script : Script A) (most : ℕ) → after ≡ before → Stopped before after script most
-Stopped-none before after script most same = record {
-  entries = 0;
-  within = omega arith;
-  realm_stays = ap (λ s. s.realm) same;
-  left = ap (λ s. s.world) same ∙ sym (run_to-none before.realm before.world script);
-  counted = omega (arith, ap (λ s. s.made) same);
-}
-
--- the turn in the directory was made, and no other
-pub Stopped-call : (before mid after : Seen) (key : RepoKey) (c : Call) (moment : ℕ) (told : Told) (places : List Place)
-    → Ran before mid (first_turn key c) told places → after ≡ mid
-    → Stopped before after (call_script key c moment) (first_entries before key c)
-unfolding call_script
-Stopped-call before mid after key c moment told places ran same =
-    let n : ℕ = first_entries before key c in
-    record {
-      entries = n;
-      within = omega arith;
-      realm_stays = ap (λ s. s.realm) same ∙ ran.realm_stays;
-      left = ap (λ s. s.world) same ∙ ran.left
-          ∙ sym (run_to-all n before.realm before.world (first_turn key c) (omega arith))
-          ∙ sym (run_to-first n before.realm before.world (first_turn key c) (then_cell key c moment) (omega arith));
-      counted = ap (λ s. s.made) same ∙ ran.counted;
-    }
-
--- both were made
-pub Ran-call : (before mid after : Seen) (key : RepoKey) (c : Call) (moment : ℕ) (told : Told) (reply : Reply) (first second : List Place)
-    → Ran before mid (first_turn key c) told first → Ran mid after (then_cell key c moment told) reply second
-    → Ran before after (call_script key c moment) reply (first ++ second)
-unfolding call_script
-Ran-call before mid after key c moment told reply first second one other =
-    Ran-then before mid after (first_turn key c) (then_cell key c moment) told reply first second one other

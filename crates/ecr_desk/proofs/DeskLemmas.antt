@@ -1,11 +1,12 @@
--- One script on a desk, and then another.
-use Rattle.std.proofs.Common.{◌≡◌, ◌≤◌, ◌+◌, ℕ, List, [], ◌++◌, refl, sym, ap, ◌∙◌, subst, append-nil, arith}
+-- What scripts come to on a desk: one and then another, and those of calls on a repository.
+use Rattle.std.proofs.Common.{◌≡◌, ◌≤◌, ◌+◌, ℕ, List, [], ◌++◌, refl, sym, ap, ◌∙◌, arith}
 use Rattle.ecr_model.specs.declared.journal.Place.{Place}
 use Rattle.ecr_model.specs.ScriptLaws.{RunsThen}
-use Rattle.ecr_model.specs.Scripts.{Realm, World, Script, ends, then_do, Run, run, run_to}
-use Rattle.ecr_model.proofs.ScriptLemmas.{run-then_do, run_to-all, run_to-first, run_to-then}
+use Rattle.ecr_model.specs.Scripts.{Told, Script, ends, then_do, run, run_to}
+use Rattle.ecr_model.proofs.ScriptLemmas.{run-then_do, run_to-all, run_to-first, run_to-none, run_to-then}
 use Rattle.ecr_model.specs.declared.call.Call.{Call}
 use Rattle.ecr_model.specs.declared.names.RepoKey.{RepoKey}
+use Rattle.ecr_model.specs.declared.reply.Reply.{Reply}
 use Rattle.ecr_model.specs.Requests.{first_turn, then_cell, call_script}
 use Rattle.ecr_desk.specs.Desks.{Seen, run_on, entries_of, first_entries, Ran, Stopped}
 
@@ -76,6 +77,16 @@ Stopped-then before mid after script next a first most one within stopped =
       counted = omega (arith, stopped.counted, one.counted);
     }
 
+-- nothing was added
+pub Stopped-none : {A : Type 0} (before after : Seen) (script : Script A) (most : ℕ) → after ≡ before → Stopped before after script most
+Stopped-none before after script most same = record {
+  entries = 0;
+  within = omega arith;
+  realm_stays = ap (λ s. s.realm) same;
+  left = ap (λ s. s.world) same ∙ sym (run_to-none before.realm before.world script);
+  counted = omega (arith, ap (λ s. s.made) same);
+}
+
 -- a whole run that wasn't told is one that stopped at its end
 pub Stopped-whole : {A : Type 0} (before after : Seen) (script : Script A) (a : A) (places : List Place)
     → Ran before after script a places → Stopped before after script (entries_of before script)
@@ -87,9 +98,36 @@ Stopped-whole before after script a places ran = record {
   counted = ran.counted;
 }
 
+-- ---- a call on a repository
+
 -- the first turn of a call adds no more than the call
 pub first_entries-le : (seen : Seen) (key : RepoKey) (call : Call) (moment : ℕ) → first_entries seen key call ≤ entries_of seen (call_script key call moment)
 unfolding call_script
 first_entries-le seen key call moment =
     let both = run-then_do seen.realm seen.world (first_turn key call) (then_cell key call moment) in
     omega (arith, both.entries_are)
+
+-- the turn in the directory was made, and no other
+pub Stopped-call : (before mid after : Seen) (key : RepoKey) (c : Call) (moment : ℕ) (told : Told) (places : List Place)
+    → Ran before mid (first_turn key c) told places → after ≡ mid
+    → Stopped before after (call_script key c moment) (first_entries before key c)
+unfolding call_script
+Stopped-call before mid after key c moment told places ran same =
+    let n : ℕ = first_entries before key c in
+    record {
+      entries = n;
+      within = omega arith;
+      realm_stays = ap (λ s. s.realm) same ∙ ran.realm_stays;
+      left = ap (λ s. s.world) same ∙ ran.left
+          ∙ sym (run_to-all n before.realm before.world (first_turn key c) (omega arith))
+          ∙ sym (run_to-first n before.realm before.world (first_turn key c) (then_cell key c moment) (omega arith));
+      counted = ap (λ s. s.made) same ∙ ran.counted;
+    }
+
+-- both turns were made
+pub Ran-call : (before mid after : Seen) (key : RepoKey) (c : Call) (moment : ℕ) (told : Told) (reply : Reply) (first second : List Place)
+    → Ran before mid (first_turn key c) told first → Ran mid after (then_cell key c moment told) reply second
+    → Ran before after (call_script key c moment) reply (first ++ second)
+unfolding call_script
+Ran-call before mid after key c moment told reply first second one other =
+    Ran-then before mid after (first_turn key c) (then_cell key c moment) told reply first second one other

@@ -12,7 +12,7 @@ use Rattle.ecr_model.specs.Scripts.{World, fresh}
 use Rattle.ecr_model.specs.Sessions.{Outside, Serves}
 use Rattle.ecr_model.proofs.CommandLemmas.{IsSession-unique}
 use Rattle.ecr_desk.specs.Desks.{Seen}
-use Rattle.ecr_session.proofs.ServingLemmas.{Serves-nothing}
+use Rattle.ecr_session.proofs.StartLemmas.{Serves-nothing}
 
 pub SaysUsage-same_end : (before after : Outside) (end other : End) → end ≡ other → SaysUsage before after other → SaysUsage before after end
 SaysUsage-same_end before after end other e says = subst (SaysUsage before after) (sym e) says

@@ -1,7 +1,9 @@
 pub mod AnswerLemmas
 pub mod AskLemmas
+pub mod EndLemmas
 pub mod FixedLemmas
 pub mod HostLemmas
 pub mod PlainLemmas
 pub mod ServingLemmas
+pub mod StartLemmas
 pub mod TurnLemmas

@@ -1,100 +1,31 @@
--- How a session goes on, and how it ends.
-use Rattle.std.proofs.Common.{◌≡◌, ℕ, ◌+◌, ◌<◌, ◌≤◌, ◌⊎◌, inl, inr, Bool, true, false, List, [], ◌∷◌, ◌++◌, length, map, refl, sym, ap, ◌∙◌, subst, arith, append-nil, append_assoc, None, Some, Option}
-use Rattle.std.proofs.KnownBytes.{Appends-nil, Appends-trans, Consumes-nil, Consumes-trans, Keeps-refl, Keeps-trans}
+-- How a session goes on, request after request.
+use Rattle.std.proofs.Common.{◌≡◌, ℕ, ◌+◌, ◌<◌, ◌≤◌, inl, false, List, [], ◌∷◌, ◌++◌, map, refl, sym, ap, ◌∙◌, subst, arith, append_assoc, None, Some, Option}
+use Rattle.std.proofs.KnownBytes.{Appends-trans, Consumes-trans, Keeps-trans}
 use Rattle.std.proofs.lemmas.List.{map_push}
 use Rattle.std.proofs.lemmas.List.Sums.{sum_by_push}
-use Rattle.std.specs.Io.KnownBytes.{Consumes, Appends, IsAtEnd}
+use Rattle.std.specs.Io.KnownBytes.{Consumes, Appends}
 use Rattle.ecr_model.specs.declared.http.Request.{Request}
 use Rattle.ecr_model.specs.declared.journal.Place.{Place}
 use Rattle.ecr_model.specs.declared.outcome.Cut.{Cut}
 use Rattle.ecr_model.specs.declared.outcome.End.{End}
 use Rattle.ecr_model.specs.declared.outcome.End.TheVariants as ends
-use Rattle.ecr_model.specs.Replies.{bad_reply, long_reply, continue_reply, interim, is_head}
+use Rattle.ecr_model.specs.Replies.{interim, is_head}
 use Rattle.ecr_model.specs.Scripts.{World}
 use Rattle.ecr_model.specs.Sessions as sessions
-use Rattle.ecr_model.specs.Sessions.{Account, Outside, Setting, AreCuts, AreMoments, Answered, Completed, Counts, CutOff, Ends, IsPlaced, Serves, is_waiting, last_words, left_after, left_by, max_read, refusal_of, replies, sent_to, written}
-use Rattle.ecr_model.specs.Stream.{Point, start, grown, past, closes, Begins, StopsBy, Lacks, Tail, Ending, ended, closed, truncated, bad_at, long_at, more}
+use Rattle.ecr_model.specs.Sessions.{Account, Outside, Setting, AreMoments, Counts, CutOff, IsPlaced, is_waiting, left_by, sent_to, written}
+use Rattle.ecr_model.specs.Stream.{Point, start, grown, past, closes, Begins}
 use Rattle.ecr_model.proofs.SessionLemmas.{AreCuts-lengths, AreCuts-more, ArePlaces-more, left_after-more, replies-more, replies-beyond}
-use Rattle.ecr_model.proofs.StreamLemmas.{Begins-append, Begins-more, Begins-length}
+use Rattle.ecr_model.proofs.StreamLemmas.{Begins-more}
 use Rattle.ecr_desk.specs.Desks.{Seen}
 use Rattle.ecr_http.specs.Reading.{Nexts}
-use Rattle.ecr_http.specs.Reading as reading
 use Rattle.ecr_http.specs.Sends.{Sends}
 use Rattle.ecr_http.specs.declared.events.Event.TheVariants as events
 use Rattle.ecr_http.specs.declared.reply.HttpReply.{HttpReply}
 use Rattle.ecr_http.specs.declared.write.Sent.{Sent}
 use Rattle.ecr_http.specs.declared.write.Sent.TheVariants.{Done, WriteFault}
-use Rattle.ecr_session.specs.Serving.{reply_bytes, Answers, IsTime, SoFar, HasCome, GoesOn, Serviced, ServesRequest, SendsLast, IsFresh, account_of, with_request, entries_in}
+use Rattle.ecr_session.specs.Serving.{reply_bytes, Answers, IsTime, SoFar, HasCome, GoesOn, Serviced, ServesRequest, account_of, with_request, entries_in}
 use Rattle.ecr_session.specs.declared.session.Session.{Session}
-
--- ---- the beginning
-
--- the moments of no request
-AreMoments-nil : (fixed : Option ℕ) (told : Option (List ℕ)) → AreMoments fixed told told [] []
-AreMoments-nil None told = Appends-nil told
-AreMoments-nil (Some moment) told = (refl, Keeps-refl told)
-
--- nothing is said of no request
-no_account : Account
-no_account = record { moments = []; places = []; cuts = [] }
-
--- no request was serviced
-nothing_serviced : (set : Setting) (before : Outside) → sessions.Serviced set before before [] no_account set.first
-unfolding left_after no_account
-nothing_serviced set before = record {
-  clocked = AreMoments-nil set.fixed before.told;
-  cuts_fit = tt;
-  placed = tt;
-  leaves = refl;
-}
-
--- lists without items say nothing
-pub Account-nil : (moments : List ℕ) (places : List (List Place)) (cuts : List Cut) → moments ≡ [] → places ≡ [] → cuts ≡ []
-    → (let account : Account = record { moments = moments; places = places; cuts = cuts } in account) ≡ record { moments = []; places = []; cuts = [] }
-Account-nil moments places cuts a b c = cc
-
--- a fresh session says nothing
-account-fresh : (session : Session) → IsFresh session → account_of session ≡ no_account
-unfolding no_account
-account-fresh session fresh =
-    Account-nil session.moments.items (map (λ v. v.items) session.places.items) session.cuts.items fresh.moments (ap (map (λ v. v.items)) fresh.places) fresh.cuts
-
--- a session begins where nothing was read
-pub HasCome-start : (set : Setting) (before : Outside) (session : Session) (seen : Seen) → IsFresh session
-    → seen.realm ≡ set.realm → seen.world ≡ set.first → HasCome set before before session seen
-unfolding replies no_account
-HasCome-start set before session seen fresh realm first = record {
-  realm_stays = realm;
-  so_far = subst (λ account. SoFar set before before session.reader account seen.world) (sym (account-fresh session fresh))
-      (subst (λ world. SoFar set before before session.reader no_account world) (sym first) (record {
-        read = [];
-        requests = [];
-        consumed = Consumes-nil before.left;
-        begins = fresh.reader;
-        serviced = nothing_serviced set before;
-        sent = Appends-nil before.held;
-        reads_later = omega arith;
-        writes_later = omega arith;
-      }));
-}
-
--- a session that isn't begun has told nothing
-pub Serves-nothing : (set : Setting) (before : Outside) (account : Account) (end : End) → account ≡ record { moments = []; places = []; cuts = [] } → end ≡ ends.Mem
-    → Serves set before before account set.first end
-unfolding replies no_account
-Serves-nothing set before account end none mem =
-    subst (λ e. Serves set before before account set.first e) (sym mem) (subst (λ a. Answered set before before a set.first) (sym none) (record {
-      read = [];
-      requests = [];
-      point = start [];
-      further = [];
-      consumed = Consumes-nil before.left;
-      begins = refl;
-      goes_on = refl;
-      serviced = nothing_serviced set before;
-      told_to = inl refl;
-      sent = Appends-nil before.held;
-    }))
+use Rattle.ecr_session.proofs.EndLemmas.{begins_grown, Completed-closed}
 
 -- room for more changes nothing
 pub HasCome-room : (set : Setting) (before mid : Outside) (old now : Session) (seen : Seen) → account_of now ≡ account_of old → now.reader ≡ old.reader
@@ -104,216 +35,6 @@ HasCome-room set before mid old now seen account reader s = record {
   so_far = subst (λ a. SoFar set before mid now.reader a seen.world) (sym account)
       (subst (λ (p : Point). SoFar set before mid p (account_of old) seen.world) (sym reader) s.so_far);
 }
-
--- ---- what was read
-
--- the requests so far, where more was read
-begins_grown : (read got : List ℕ) (requests : List Request) (point : Point) → Begins (start read) requests point
-    → Begins (start (read ++ got)) requests (grown point got)
-begins_grown read got requests point begins = Begins-append (start read) got requests point begins
-
--- nothing was asked of the clock
-serviced_kept : (set : Setting) (before mid after : Outside) (requests : List Request) (account : Account) (last : World)
-    → after.told ≡ mid.told → sessions.Serviced set before mid requests account last → sessions.Serviced set before after requests account last
-serviced_kept set before mid after requests account last told s = record {
-  clocked = subst (λ t. AreMoments set.fixed before.told t account.cuts account.moments) (sym told) s.clocked;
-  cuts_fit = s.cuts_fit;
-  placed = s.placed;
-  leaves = s.leaves;
-}
-
--- ---- the ends of which all is known: all requests were answered, and this is what follows them
-
-ends_by : (set : Setting) (before mid after : Outside) (point : Point) (account : Account) (last : World) (s : SoFar set before mid point account last)
-    (got : List ℕ) (over : Bool) (tail : Tail) (end : End) → point.closed ≡ false → after.told ≡ mid.told → Consumes mid.left after.left got
-    → Lacks over (grown point got) tail → (over ≡ true → IsAtEnd after.left) → Appends mid.held after.held (last_words tail) → Ends end tail.ending (length (s.read ++ got))
-    → Completed set before after account last end
-ends_by set before mid after point account last s got over tail end opened told consumed lacks at_end sent fits = record {
-  read = s.read ++ got;
-  over = over;
-  requests = s.requests;
-  tail = tail;
-  consumed = Consumes-trans before.left mid.left after.left s.read got s.consumed consumed;
-  at_end = at_end;
-  reads = record {
-    point = grown point got;
-    begins = begins_grown s.read got s.requests point s.begins;
-    stops = subst (λ (shut : Bool). StopsBy shut over (grown point got) tail) (sym opened) lacks;
-  };
-  serviced = serviced_kept set before mid after s.requests account last told s.serviced;
-  sent = Appends-trans before.held mid.held after.held (sent_to set s.requests account) (last_words tail) s.sent sent;
-  ends = fits;
-}
-
--- where nothing is replied to what follows
-ends_silently : (set : Setting) (before mid after : Outside) (point : Point) (account : Account) (last : World) (s : SoFar set before mid point account last)
-    (got : List ℕ) (over : Bool) (ending : Ending) (end : End) → point.closed ≡ false → after.told ≡ mid.told → Consumes mid.left after.left got
-    → reading.Shows over (grown point got) mid.held after.held ending → refusal_of ending ≡ [] → (over ≡ true → IsAtEnd after.left) → Ends end ending (length (s.read ++ got))
-    → Completed set before after account last end
-ends_silently set before mid after point account last s got over ending end opened told consumed shows none at_end fits =
-    ends_by set before mid after point account last s got over (record { due = shows.0; ending = ending }) end opened told consumed shows.1 at_end
-    (subst (λ l. Appends mid.held after.held (interim shows.0 ++ l)) (sym none) (subst (Appends mid.held after.held) (sym (append-nil (interim shows.0))) shows.2)) fits
-
-not_over : {P : Type 0} → false ≡ true → P
-not_over e = absurd (let no : false ≡ true = e in cc)
-
-pub Serves-whole : (set : Setting) (before mid after : Outside) (point q : Point) (account : Account) (last : World) → SoFar set before mid point account last
-    → point.closed ≡ false → Nexts mid.left mid.held point after.left after.held q events.End → after.told ≡ mid.told → Serves set before after account last ends.Whole
-Serves-whole set before mid after point q account last s opened n told =
-    ends_silently set before mid after point account last s n.got true ended ends.Whole opened told n.consumed n.gives.0 refl (λ e. n.gives.1) (inl refl)
-
-pub Serves-truncated : (set : Setting) (before mid after : Outside) (point q : Point) (account : Account) (last : World) (at : ℕ) → SoFar set before mid point account last
-    → point.closed ≡ false → Nexts mid.left mid.held point after.left after.held q (events.Truncated at) → after.told ≡ mid.told → Serves set before after account last (ends.Truncated at)
-Serves-truncated set before mid after point q account last at s opened n told =
-    ends_silently set before mid after point account last s n.got true (truncated at) (ends.Truncated at) opened told n.consumed n.gives.0 refl (λ e. n.gives.1) refl
-
-pub Serves-fault : (set : Setting) (before mid after : Outside) (point q : Point) (account : Account) (last : World) → SoFar set before mid point account last
-    → point.closed ≡ false → Nexts mid.left mid.held point after.left after.held q events.ReadFault → after.told ≡ mid.told → mid.read_faults < after.read_faults
-    → Serves set before after account last ends.ReadFault
-Serves-fault set before mid after point q account last s opened n told rose =
-    let later = s.reads_later in (
-      omega arith,
-      ends_silently set before mid after point account last s n.got false more ends.ReadFault opened told n.consumed n.gives refl not_over refl,
-    )
-
-pub Serves-spent : (set : Setting) (before mid after : Outside) (point q : Point) (account : Account) (last : World) → SoFar set before mid point account last
-    → point.closed ≡ false → Nexts mid.left mid.held point after.left after.held q events.Spent → after.told ≡ mid.told → Serves set before after account last ends.Spent
-Serves-spent set before mid after point q account last s opened n told =
-    let all = Begins-length (start (s.read ++ n.got)) s.requests (grown point n.got) (begins_grown s.read n.got s.requests point s.begins) in
-    let spent = n.gives.1 in
-    let size : length (s.read ++ n.got) ≡ max_read = omega arith in
-    ends_silently set before mid after point account last s n.got false more ends.Spent opened told n.consumed n.gives.0 refl not_over (refl, size)
-
--- ---- no memory
-
-pub Serves-mem : (set : Setting) (before mid after : Outside) (point q : Point) (account : Account) (last : World) → SoFar set before mid point account last
-    → point.closed ≡ false → Nexts mid.left mid.held point after.left after.held q events.Mem → after.told ≡ mid.told → Serves set before after account last ends.Mem
-Serves-mem set before mid after point q account last s opened n told = record {
-  read = s.read ++ n.got;
-  requests = s.requests;
-  point = grown point n.got;
-  further = n.gives.0;
-  consumed = Consumes-trans before.left mid.left after.left s.read n.got s.consumed n.consumed;
-  begins = begins_grown s.read n.got s.requests point s.begins;
-  goes_on = opened;
-  serviced = serviced_kept set before mid after s.requests account last told s.serviced;
-  told_to = n.gives.1;
-  sent = Appends-trans before.held mid.held after.held (sent_to set s.requests account) n.gives.0 s.sent n.gives.2;
-}
-
--- there was no room for what is said, and nothing was read
-pub Serves-no_room : (set : Setting) (before mid : Outside) (point : Point) (account other : Account) (last : World) → SoFar set before mid point account last
-    → point.closed ≡ false → other ≡ account → Serves set before mid other last ends.Mem
-Serves-no_room set before mid point account other last s opened same =
-    subst (λ a. Serves set before mid a last ends.Mem) (sym same) (record {
-      read = s.read;
-      requests = s.requests;
-      point = point;
-      further = [];
-      consumed = s.consumed;
-      begins = s.begins;
-      goes_on = opened;
-      serviced = s.serviced;
-      told_to = inl refl;
-      sent = subst (Appends before.held mid.held) (sym (append-nil (sent_to set s.requests account))) s.sent;
-    })
-
--- ---- a write that failed
-
--- the client was being told to go on
-pub Serves-untold : (set : Setting) (before mid after : Outside) (point q : Point) (account : Account) (last : World) → SoFar set before mid point account last
-    → point.closed ≡ false → Nexts mid.left mid.held point after.left after.held q events.WriteFault → after.told ≡ mid.told → mid.write_faults < after.write_faults
-    → Serves set before after account last ends.WriteFault
-Serves-untold set before mid after point q account last s opened n told rose =
-    let later = s.writes_later in
-    let cut : Sends mid.held after.held continue_reply WriteFault = n.gives.1 in (
-      omega arith,
-      record {
-        read = s.read ++ n.got;
-        requests = s.requests;
-        point = grown point n.got;
-        done = sent_to set s.requests account;
-        piece = continue_reply;
-        taken = cut.0;
-        lost = cut.1;
-        consumed = Consumes-trans before.left mid.left after.left s.read n.got s.consumed n.consumed;
-        begins = begins_grown s.read n.got s.requests point s.begins;
-        serviced = serviced_kept set before mid after s.requests account last told s.serviced;
-        is_last = inr (inl (opened, n.gives.0, refl, refl));
-        parts = cut.2;
-        sent = Appends-trans before.held mid.held after.held (sent_to set s.requests account) cut.0 s.sent cut.3;
-      },
-    )
-
--- ---- what is no request was replied to, or the reply was cut short
-
-refused : (set : Setting) (before mid between after : Outside) (point : Point) (account : Account) (last : World) (s : SoFar set before mid point account last)
-    (got : List ℕ) (ending : Ending) (expected end : End) → point.closed ≡ false → Consumes mid.left after.left got → after.told ≡ mid.told
-    → reading.Shows false (grown point got) mid.held between.held ending → SendsLast between.held after.held (refusal_of ending) expected end
-    → Ends expected ending (length (s.read ++ got)) → ((end ≡ expected) × Completed set before after account last expected) ⊎ ((end ≡ ends.WriteFault) × CutOff set before after account last)
-refused set before mid between after point account last s got ending expected end opened consumed told shows (inl done) fits =
-    inl (
-      done.0,
-      ends_by set before mid after point account last s got false (record { due = shows.0; ending = ending }) expected opened told consumed shows.1 not_over
-          (Appends-trans mid.held between.held after.held (interim shows.0) (refusal_of ending) shows.2 done.1) fits,
-    )
-refused set before mid between after point account last s got ending expected end opened consumed told shows (inr cut) fits =
-    let tail : Tail = record { due = shows.0; ending = ending } in
-    let begins = begins_grown s.read got s.requests point s.begins in
-    let sends : Sends between.held after.held (refusal_of ending) WriteFault = cut.1 in
-    inr (
-      cut.0,
-      record {
-        read = s.read ++ got;
-        requests = s.requests;
-        point = grown point got;
-        done = sent_to set s.requests account ++ interim shows.0;
-        piece = refusal_of ending;
-        taken = sends.0;
-        lost = sends.1;
-        consumed = Consumes-trans before.left mid.left after.left s.read got s.consumed consumed;
-        begins = begins;
-        serviced = serviced_kept set before mid after s.requests account last told s.serviced;
-        is_last = inr (inr (
-          false,
-          tail,
-          record { point = grown point got; begins = begins; stops = subst (λ (shut : Bool). StopsBy shut false (grown point got) tail) (sym opened) shows.1 },
-          refl,
-          refl,
-        ));
-        parts = sends.2;
-        sent = Appends-trans before.held between.held after.held _ sends.0
-            (Appends-trans before.held mid.held between.held (sent_to set s.requests account) (interim shows.0) s.sent shows.2) sends.3;
-      },
-    )
-
-serves_refused : (set : Setting) (before mid after : Outside) (account : Account) (last : World) (expected end : End)
-    → (Completed set before after account last expected → Serves set before after account last expected) → before.write_faults ≤ mid.write_faults
-    → (end ≡ ends.WriteFault → mid.write_faults < after.write_faults)
-    → ((end ≡ expected) × Completed set before after account last expected) ⊎ ((end ≡ ends.WriteFault) × CutOff set before after account last) → Serves set before after account last end
-serves_refused set before mid after account last expected end keep later cause (inl done) =
-    subst (λ (e : End). Serves set before after account last e) (sym done.0) (keep done.1)
-serves_refused set before mid after account last expected end keep later cause (inr cut) =
-    let rose = cause cut.0 in
-    subst (λ (e : End). Serves set before after account last e) (sym cut.0) (omega arith, cut.1)
-
-pub Serves-bad : (set : Setting) (before mid between after : Outside) (point q : Point) (account : Account) (last : World) (at : ℕ) (end : End) → SoFar set before mid point account last
-    → point.closed ≡ false → Nexts mid.left mid.held point between.left between.held q (events.Bad at) → after.left ≡ between.left → after.told ≡ mid.told
-    → SendsLast between.held after.held bad_reply (ends.Bad at) end → mid.write_faults ≤ between.write_faults → (end ≡ ends.WriteFault → between.write_faults < after.write_faults)
-    → Serves set before after account last end
-Serves-bad set before mid between after point q account last at end s opened n left told sends later cause =
-    let so_far = s.writes_later in
-    serves_refused set before between after account last (ends.Bad at) end (λ done. done) (omega arith) cause
-    (refused set before mid between after point account last s n.got (bad_at at) (ends.Bad at) end opened (subst (λ l. Consumes mid.left l n.got) (sym left) n.consumed) told n.gives sends refl)
-
-pub Serves-long : (set : Setting) (before mid between after : Outside) (point q : Point) (account : Account) (last : World) (at limit : ℕ) (end : End) → SoFar set before mid point account last
-    → point.closed ≡ false → Nexts mid.left mid.held point between.left between.held q (events.TooLong at limit) → after.left ≡ between.left → after.told ≡ mid.told
-    → SendsLast between.held after.held (long_reply limit) (ends.TooLong at limit) end → mid.write_faults ≤ between.write_faults → (end ≡ ends.WriteFault → between.write_faults < after.write_faults)
-    → Serves set before after account last end
-Serves-long set before mid between after point q account last at limit end s opened n left told sends later cause =
-    let so_far = s.writes_later in
-    serves_refused set before between after account last (ends.TooLong at limit) end (λ done. done) (omega arith) cause
-    (refused set before mid between after point account last s n.got (long_at at limit) (ends.TooLong at limit) end opened (subst (λ l. Consumes mid.left l n.got) (sym left) n.consumed) told n.gives sends refl)
 
 -- ---- a request
 
@@ -462,25 +183,6 @@ CutOff-serviced set before mid between after point old now seen later request re
       parts = sends.2;
       sent = Appends-trans before.held between.held after.held (first ++ due) sends.0 (Appends-trans before.held mid.held between.held first due s.sent n.gives.3) sends.3;
     })
-
--- the last request closes the session
-Completed-closed : (set : Setting) (before after : Outside) (point : Point) (account : Account) (last : World) → SoFar set before after point account last → point.closed ≡ true
-    → Completed set before after account last ends.Whole
-unfolding interim
-Completed-closed set before after point account last s shut =
-    let tail : Tail = record { due = false; ending = closed } in
-    record {
-      read = s.read;
-      over = false;
-      requests = s.requests;
-      tail = tail;
-      consumed = s.consumed;
-      at_end = not_over;
-      reads = record { point = point; begins = s.begins; stops = subst (λ (c : Bool). StopsBy c false point tail) (sym shut) refl };
-      serviced = s.serviced;
-      sent = subst (Appends before.held after.held) (sym (append-nil (sent_to set s.requests account))) s.sent;
-      ends = inr refl;
-    }
 
 pub GoesOn-request : (set : Setting) (before mid between after : Outside) (point : Point) (old now : Session) (seen later : Seen) (request : Request) (end : Option End)
     → seen.realm ≡ set.realm → SoFar set before mid point (account_of old) seen.world

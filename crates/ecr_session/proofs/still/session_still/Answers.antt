@@ -1,5 +1,5 @@
 use Rattle.std.proofs.Common.{refl, ap, map}
-use Rattle.ecr_session.proofs.ServingLemmas.{Account-nil, Serves-nothing}
+use Rattle.ecr_session.proofs.StartLemmas.{Account-nil, Serves-nothing}
 use Rattle.ecr_session.proofs.still.session_still.Goals as goal
 
 pub returns-in-Err-clause-serves : goal.returns-in-Err-clause-serves

@@ -3,9 +3,9 @@ use Rattle.ecr_model.specs.declared.journal.Place.{Place}
 use Rattle.ecr_model.specs.declared.reply.Reply.{Reply}
 use Rattle.ecr_model.specs.Requests.{call_script}
 use Rattle.ecr_desk.specs.Desks.{Ran, first_entries}
+use Rattle.ecr_desk.proofs.DeskLemmas.{Ran-call, Stopped-call, Stopped-none}
 use Rattle.ecr_cells.specs.Desks.{seen_of, places_of}
 use Rattle.ecr_cells.specs.Firsts.{told_of}
-use Rattle.ecr_cells.proofs.RunLemmas.{Ran-call, Stopped-none, Stopped-call}
 use Rattle.ecr_cells.proofs.WorldLemmas.{on_err_any}
 use Rattle.ecr_cells.proofs.desk.SoloDeskStillDesk.call.Goals as goal
 

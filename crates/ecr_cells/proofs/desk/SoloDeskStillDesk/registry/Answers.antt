@@ -4,8 +4,9 @@ use Rattle.ecr_model.specs.declared.names.SiteId.{SiteId}
 use Rattle.ecr_model.specs.Requests.{site_script}
 use Rattle.ecr_model.specs.Scripts.{listed, site_call}
 use Rattle.ecr_desk.specs.Desks.{entries_of}
+use Rattle.ecr_desk.proofs.DeskLemmas.{Stopped-none}
 use Rattle.ecr_cells.specs.Desks.{Took, seen_of}
-use Rattle.ecr_cells.proofs.RunLemmas.{Ran-site_script, Stopped-none}
+use Rattle.ecr_cells.proofs.RunLemmas.{Ran-site_script}
 use Rattle.ecr_cells.proofs.WorldLemmas.{on_err_any}
 use Rattle.ecr_cells.proofs.desk.SoloDeskStillDesk.registry.Goals as goal
 

@@ -2,7 +2,7 @@ use Rattle.std.proofs.Common.{◌∙◌, ◌<◌, refl, sym, ap, subst, arith, l
 use Rattle.ecr_model.specs.Scripts.{Realm}
 use Rattle.ecr_model.specs.Stream.{Point}
 use Rattle.ecr_session.specs.Serving.{entries_in}
-use Rattle.ecr_session.proofs.ServingLemmas.{HasCome-start}
+use Rattle.ecr_session.proofs.StartLemmas.{HasCome-start}
 use Rattle.ecr_session.proofs.session.Session.run.Goals as goal
 
 pub loop-end-init : goal.loop-end-init

@@ -4,7 +4,8 @@ use Rattle.ecr_model.specs.Sessions.{Outside, Serves}
 use Rattle.ecr_model.specs.Stream.{Point}
 use Rattle.ecr_session.specs.Serving.{SendsLast, ServesRequest, account_of}
 use Rattle.ecr_session.specs.declared.session.Session.{Session}
-use Rattle.ecr_session.proofs.ServingLemmas.{HasCome-room, Serves-whole, Serves-truncated, Serves-fault, Serves-spent, Serves-mem, Serves-no_room, Serves-untold, Serves-bad, Serves-long, GoesOn-request}
+use Rattle.ecr_session.proofs.EndLemmas.{Serves-whole, Serves-truncated, Serves-fault, Serves-spent, Serves-mem, Serves-no_room, Serves-untold, Serves-bad, Serves-long}
+use Rattle.ecr_session.proofs.ServingLemmas.{HasCome-room, GoesOn-request}
 use Rattle.ecr_session.proofs.session.Session.take_turn.Goals as goal
 
 pub returns-then-is_err-clause-goes_on : goal.returns-then-is_err-clause-goes_on
