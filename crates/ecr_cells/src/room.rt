@@ -82,31 +82,11 @@ pub(crate) fn change(
     ensures numbered { past room.new.journal ≡ length room.new.journal }
     ensures err { OnErr result (room.new ≡ room.old) }
 {
-    change_state(&mut *room.state, alloc, key, call, load, moment)
-}
-
-// The same on the state, out of its room.
-fn change_state(
-    room: &mut RepoState,
-    alloc: Global,
-    key: RepoKey,
-    call: &Call,
-    load: Load,
-    moment: Moment,
-) -> Result<(Outcome, Place), Mem>
-    requires key { room.old.key ≡ key }
-    requires fits { FitsCall call.now load }
-    requires numbered { past room.old.journal ≡ length room.old.journal }
-    ensures turned { IfOk result (λ t. IsRoomTurn room.old room.new (asks.call moment call.now) (replied t.0.reply) t.1) }
-    ensures blobs { IfOk result (λ t. t.0.blobs.items ≡ []) }
-    ensures stays { (room.new.key ≡ room.old.key) × (room.new.limits ≡ room.old.limits) }
-    ensures numbered { past room.new.journal ≡ length room.new.journal }
-    ensures err { OnErr result (room.new ≡ room.old) }
-{
-    a_journal_is_sound(room);
-    let ticket = room.entries();
+    let state = &mut *room.state;
+    a_journal_is_sound(state);
+    let ticket = state.entries();
     let nowhere = Vec::new(alloc);
-    let outcome = room.change(alloc, ticket, 0, call, load, nowhere, moment)?;
+    let outcome = state.change(alloc, ticket, 0, call, load, nowhere, moment)?;
     let place = Place {
         cell: CellKey::Repository(key),
         ticket,
