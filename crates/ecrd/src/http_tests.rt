@@ -13,7 +13,7 @@ use std::test::Fail;
 
 #[test]
 fn sessions_answer_as_they_must(rt: HostRuntime) -> Result<(), Fail> {
-    let cases: [(Parts, Parts, End); 14] = [
+    let cases: [(Parts, Parts, End); 15] = [
         (&[], &[], End::Whole),
         (
             &[(CREATE, 1)],
@@ -28,6 +28,16 @@ fn sessions_answer_as_they_must(rt: HostRuntime) -> Result<(), Fail> {
         (
             &[(CREATE, 2)],
             &[(MADE_HEAD, 1), (MADE_BODY, 1), (THERE, 1)],
+            End::Whole,
+        ),
+        // As many fields as a head can have.
+        (
+            &[
+                ("GET / HTTP/1.1\r\nHost: x\r\n", 1),
+                ("a:\n", 21_836),
+                ("\n", 1),
+            ],
+            &[(NOT_FOUND, 1)],
             End::Whole,
         ),
         // Names off their form.
