@@ -15,11 +15,6 @@ pub Ran-ends : {A : Type 0} (seen : Seen) (answer : A) → Ran seen seen (ends a
 unfolding run
 Ran-ends seen answer = record { realm_stays = refl; left = refl; counted = omega arith; placed = refl; answered = refl }
 
--- of a script without a turn nothing stops
-pub Stopped-ends : {A : Type 0} (seen : Seen) (answer : A) → Stopped seen seen (ends answer) (entries_of seen (ends answer))
-unfolding run run_to
-Stopped-ends seen answer = record { entries = 0; within = omega arith; realm_stays = refl; left = refl; counted = omega arith }
-
 -- what stood on the desk in between is what the first script left
 same_run : {A B : Type 0} (before mid : Seen) (script : Script A) (next : A → Script B) (a : A) (places : List Place)
     → Ran before mid script a places

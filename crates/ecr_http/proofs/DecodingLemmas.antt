@@ -16,7 +16,7 @@ use Rattle.ecr_model.proofs.ChunkLemmas.{line_end-is, line_end-append, Says-appe
 use Rattle.ecr_model.proofs.PartLemmas.{IsPart-open_line, IsPart-long_line, IsPart-no_size, IsPart-over, IsPart-data, IsPart-open_data, IsPart-last, IsPart-open_trailers, IsPart-long_trailers, Chunks-ahead, IsChunked-lacks, IsChunked-whole}
 use Rattle.ecr_http.specs.Takings.{Gains, IsStop, left_to_read}
 use Rattle.ecr_http.specs.Bodies.{IsPartial}
-use Rattle.ecr_http.specs.Decoding.{IsClosed, HasLine, IsInData, IsInTrailers, StandsAt, Decodes, Awaits, Decoded, IsScanned, rank, left_to_do}
+use Rattle.ecr_http.specs.Decoding.{IsClosed, HasLine, IsInData, IsInTrailers, StandsAt, Decodes, Awaits, Decoded, rank, left_to_do}
 use Rattle.ecr_http.specs.declared.intake.Intake.{Intake}
 use Rattle.ecr_http.specs.declared.intake.Stop.{Stop}
 use Rattle.ecr_http.specs.declared.intake.Stop.TheVariants as stops
@@ -421,12 +421,6 @@ Decodes-start limit before now body none spent = record {
   begins = refl;
   stands = (none, sym (append-nil now.buffer));
 }
-
-pub IsScanned-at : (limit : ℕ) (p : Progress) (body buffer : List ℕ) (stage : Stage) → StandsAt limit p body buffer stage
-    → IsScanned buffer stage
-IsScanned-at limit p body buffer stages.Line stands = tt
-IsScanned-at limit p body buffer (stages.Data left) stands = tt
-IsScanned-at limit p body buffer (stages.Trailers scanned) t = (t.within, t.known)
 
 -- how many bytes a whole body took, by how many came
 took : (limit : ℕ) (before : Option (List ℕ)) (old : Intake) (after : Option (List ℕ)) (now : Intake) (body : List ℕ) (held size : ℕ)

@@ -1,25 +1,8 @@
 -- Spaces at the ends of a text.
-use Rattle.std.proofs.Common.{◌≡◌, ℕ, suc, ◌+◌, ◌<◌, ◌≤◌, ◌==◌, false, List, [], ◌∷◌, ◌++◌, length, take, drop, get_or, refl, sym, ap, ◌∙◌, arith}
-use Rattle.std.proofs.lemmas.Bool.{cond-true, cond-false, eq-eqb, ne_eqb}
-use Rattle.std.proofs.lemmas.List.{drop_more, drop_all, take_more, take_all, length-take-le}
-use Rattle.ecr_model.specs.Manifests.{after_spaces, before_spaces, through_last}
-
--- a space at the beginning is dropped
-pub after_spaces-space : (t : List ℕ) (i : ℕ) → i < length t → get_or t i 0 ≡ 32 → after_spaces (drop i t) ≡ after_spaces (drop (i + 1) t)
-after_spaces-space t i h e =
-    ap after_spaces (drop_more t i 0 h)
-    ∙ cond-true (get_or t i 0 == 32) (after_spaces (drop (i + 1) t)) (get_or t i 0 ∷ drop (i + 1) t) (eq-eqb (get_or t i 0) 32 e)
-
--- another byte isn't
-pub after_spaces-other : (t : List ℕ) (i : ℕ) → i < length t → (get_or t i 0 ≡ 32 → ⊥) → after_spaces (drop i t) ≡ drop i t
-after_spaces-other t i h n =
-    ap after_spaces (drop_more t i 0 h)
-    ∙ cond-false (get_or t i 0 == 32) (after_spaces (drop (i + 1) t)) (get_or t i 0 ∷ drop (i + 1) t) (ne_eqb (get_or t i 0) 32 n)
-    ∙ sym (drop_more t i 0 h)
-
--- where nothing is left
-pub after_spaces-end : (t : List ℕ) (i : ℕ) → length t ≤ i → after_spaces (drop i t) ≡ []
-after_spaces-end t i h = ap after_spaces (drop_all i t h)
+use Rattle.std.proofs.Common.{◌≡◌, ℕ, suc, ◌+◌, ◌<◌, ◌==◌, false, List, [], ◌∷◌, ◌++◌, length, take, get_or, refl, ap, ◌∙◌, arith}
+use Rattle.std.proofs.lemmas.Bool.{ne_eqb}
+use Rattle.std.proofs.lemmas.List.{take_more, length-take-le}
+use Rattle.ecr_model.specs.Manifests.{through_last}
 
 -- one byte more at the end, a space
 through_last-push_space : (t : List ℕ) → through_last (t ++ 32 ∷ []) ≡ through_last t
@@ -43,7 +26,3 @@ through_last-other t i h n =
     let len : length (take i t) ≡ i = length-take-le i t (omega arith) in
     let e : suc (length (take i t)) ≡ i + 1 = omega arith in
     ap through_last (take_more t i 0 h) ∙ through_last-push_other (take i t) (get_or t i 0) n ∙ e
-
--- where all bytes were seen
-pub before_spaces-end : (t : List ℕ) (i end : ℕ) → length t ≤ i → end ≡ through_last (take i t) → take end t ≡ before_spaces t
-before_spaces-end t i end h e = ap (λ (n : ℕ). take n t) (e ∙ ap through_last (take_all i t h))

@@ -71,9 +71,6 @@ line_end-long bytes long = by (nat_lt (line_size bytes) (length bytes)) (le-ltb 
     by true same = rw same refl
     by false same = refl
 
-pub line_end-open : (bytes : List ℕ) → length bytes ≤ line_size bytes → line_end bytes ≡ None
-line_end-open bytes none_ends = rw (le-ltb _ _ none_ends) refl
-
 pub line_end-append : (bytes more : List ℕ) (n : ℕ) → line_end bytes ≡ Some n → line_end (bytes ++ more) ≡ Some n
 line_end-append bytes more n is =
     let parts : (line_size bytes ≡ n) × (n < length bytes) × (n < max_chunk_line) = line_end-is bytes n is in

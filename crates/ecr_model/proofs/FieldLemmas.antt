@@ -24,7 +24,7 @@ pub first_value-places : (name head : List ℕ) (places : List HeaderSpan) → f
 first_value-places name head [] = refl
 first_value-places name head (p ∷ ps) =
     first-others (λ (f : Field). f.value) (λ (q : HeaderSpan). span_bytes head q.value) (has_name name (field_at head p)) (field_at head p) p
-      (find (has_name name) (map (field_at head) ps)) (find (λ q. has_name name (field_at head q)) ps) refl (first_value-places name head ps)
+    (find (has_name name) (map (field_at head) ps)) (find (λ q. has_name name (field_at head q)) ps) refl (first_value-places name head ps)
 
 -- each field of the name has the value where that is so at each place
 pub each_is-places : (name value head : List ℕ) (places : List HeaderSpan) → each_is name value (map (field_at head) places)

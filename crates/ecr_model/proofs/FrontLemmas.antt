@@ -8,13 +8,9 @@ use Rattle.ecr_model.specs.declared.http.Framing.TheVariants.{Sized, Chunked}
 use Rattle.ecr_model.specs.declared.http.Request.{Request}
 use Rattle.ecr_model.specs.Framing.{max_head, max_body, ends_empty, IsEnd, HasNoEnd, EndsAt, Parses, framing_of}
 pub use Rattle.ecr_model.specs.Fronts.{is_settled_lack, is_settled_body}
-use Rattle.ecr_model.specs.Stream.{bad, too_long, open_, Front, whole, short, BodyFront, complete, lacks, request_of, head_part, sized_front, IsBody, with_body, IsFramed, IsHeaded, ParsesTo, IsFront}
+use Rattle.ecr_model.specs.Stream.{bad, too_long, open_, Front, whole, short, BodyFront, complete, lacks, sized_front, IsBody, with_body, IsFramed, IsHeaded, ParsesTo, IsFront}
 use Rattle.ecr_model.proofs.ChunkLemmas.{IsChunked-unique, IsChunked-append, IsChunked-length}
 use Rattle.ecr_model.proofs.FramingLemmas.{IsEnd-append, HasNoEnd-append, IsEnd-positive, EndsAt-unique, Parses-unique}
-
--- a request says in its head what its head said
-pub head_part-request_of : (at : ℕ) (head : Head) (body : List ℕ) → head_part (request_of at head body) ≡ head
-head_part-request_of at head body = refl
 
 -- it is said what stands there, whatever follows
 abbrev pub is_settled : Front → Bool

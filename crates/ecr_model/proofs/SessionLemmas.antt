@@ -63,16 +63,6 @@ replies-beyond realm world (q ∷ rs) (x ∷ ms) (d ∷ cs) es ds moments cuts =
     ap (λ (l : List ℕ). answer_to realm world x d q ++ l)
     (replies-beyond realm (left_by realm world x d q) rs ms cs es ds (omega arith) (omega arith))
 
-pub left_after-beyond : (realm : Realm) (world : World) (rs : List Request) (ms : List ℕ) (cs : List Cut) (es : List ℕ) (ds : List Cut)
-    → length ms ≡ length rs → length cs ≡ length rs
-    → left_after realm world rs (ms ++ es) (cs ++ ds) ≡ left_after realm world rs ms cs
-unfolding left_after
-left_after-beyond realm world [] ms cs es ds moments cuts = refl
-left_after-beyond realm world (q ∷ rs) [] cs es ds moments cuts = absurd (omega arith)
-left_after-beyond realm world (q ∷ rs) (x ∷ ms) [] es ds moments cuts = absurd (omega arith)
-left_after-beyond realm world (q ∷ rs) (x ∷ ms) (d ∷ cs) es ds moments cuts =
-    left_after-beyond realm (left_by realm world x d q) rs ms cs es ds (omega arith) (omega arith)
-
 -- ---- the lengths
 
 pub AreCuts-lengths : (realm : Realm) (world : World) (rs : List Request) (ms : List ℕ) (cs : List Cut)

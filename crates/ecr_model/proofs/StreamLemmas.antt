@@ -5,11 +5,9 @@ use Rattle.std.proofs.lemmas.List.{drop-append-le, drop_all}
 use Rattle.std.proofs.lemmas.List.Sums.{prefix_len-le-length}
 use Rattle.std.proofs.lemmas.List.Folds.{prefix_len-append}
 use Rattle.ecr_model.specs.declared.http.Request.{Request}
-use Rattle.ecr_model.specs.Framing.{max_head}
-use Rattle.ecr_model.specs.Stream.{is_blank, blank_length, Lack, bad, too_long, open_, Front, whole, short, IsFront, Point, start, grown, past_blank, Meets, AwaitsBody, closes, past, Begins, Ending, ended, truncated, Tail, ending_of, tail_of, Lacks, StopsBy, Stops}
+use Rattle.ecr_model.specs.Stream.{is_blank, blank_length, Lack, bad, too_long, open_, Front, whole, short, IsFront, Point, start, grown, past_blank, Meets, closes, past, Begins, Ending, ended, truncated, Tail, ending_of, tail_of, Lacks, StopsBy, Stops}
 use Rattle.ecr_model.specs.StreamLaws.{is_last, RequestsAreDetermined, AnEndStays, ACutChangesNothing}
-use Rattle.ecr_model.proofs.FramingLemmas.{IsEnd-append, IsEnd-positive}
-use Rattle.ecr_model.proofs.FrontLemmas.{is_settled, is_settled_lack, IsFront-nil, IsFront-unique, IsFront-whole_length, IsFront-append, Parses-append}
+use Rattle.ecr_model.proofs.FrontLemmas.{is_settled, is_settled_lack, IsFront-nil, IsFront-unique, IsFront-whole_length, IsFront-append}
 
 -- ---- blank bytes
 
@@ -84,21 +82,6 @@ pub Meets-append : (p : Point) (others : List ℕ) (front : Front) → is_settle
 Meets-append p others front settled meets =
     subst (λ (q : Point). IsFront q.at q.ahead front) (sym (past_blank-grown p others (Meets-some p front settled meets)))
     (IsFront-append (past_blank p).at (past_blank p).ahead others front settled meets)
-
-pub AwaitsBody-append : (p : Point) (others : List ℕ) → AwaitsBody p → AwaitsBody (grown p others)
-AwaitsBody-append p others waits =
-    let within : waits.end ≤ length (past_blank p).ahead = waits.ends.within in
-    let some : 0 < waits.end = IsEnd-positive max_head (past_blank p).ahead waits.end waits.ends in
-    let before : blank_length p.ahead < length p.ahead = omega (arith, length-drop (blank_length p.ahead) p.ahead) in
-    let bytes : (past_blank (grown p others)).ahead ≡ (past_blank p).ahead ++ others =
-    ap (λ (q : Point). q.ahead) (past_blank-grown p others before) in
-    record {
-      end = waits.end;
-      head = waits.head;
-      ends = rw bytes (IsEnd-append max_head (past_blank p).ahead others waits.end waits.ends);
-      parses = rw bytes (Parses-append (past_blank p).ahead others waits.end (Some waits.head) within waits.parses);
-      waiting = waits.waiting;
-    }
 
 pub Meets-unique : (p : Point) (f g : Front) → Meets p f → Meets p g → f ≡ g
 Meets-unique p f g a b = IsFront-unique (past_blank p).at (past_blank p).ahead f g a b

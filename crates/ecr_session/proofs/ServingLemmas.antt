@@ -1,29 +1,27 @@
 -- How a session goes on, request after request.
-use Rattle.std.proofs.Common.{◌≡◌, ℕ, ◌+◌, ◌<◌, ◌≤◌, inl, false, List, [], ◌∷◌, ◌++◌, map, refl, sym, ap, ◌∙◌, subst, arith, append_assoc, None, Some, Option}
+use Rattle.std.proofs.Common.{◌≡◌, ℕ, ◌<◌, ◌≤◌, inl, false, List, [], ◌∷◌, ◌++◌, map, refl, sym, ap, ◌∙◌, subst, arith, append_assoc, None, Some, Option}
 use Rattle.std.proofs.KnownBytes.{Appends-trans, Consumes-trans, Keeps-trans}
 use Rattle.std.proofs.lemmas.List.{map_push}
-use Rattle.std.proofs.lemmas.List.Sums.{sum_by_push}
 use Rattle.std.specs.Io.KnownBytes.{Consumes, Appends}
 use Rattle.ecr_model.specs.declared.http.Request.{Request}
 use Rattle.ecr_model.specs.declared.journal.Place.{Place}
 use Rattle.ecr_model.specs.declared.outcome.Cut.{Cut}
 use Rattle.ecr_model.specs.declared.outcome.End.{End}
 use Rattle.ecr_model.specs.declared.outcome.End.TheVariants as ends
-use Rattle.ecr_model.specs.Replies.{interim, is_head}
+use Rattle.ecr_model.specs.Replies.{interim}
 use Rattle.ecr_model.specs.Scripts.{World}
 use Rattle.ecr_model.specs.Sessions as sessions
 use Rattle.ecr_model.specs.Sessions.{Account, Outside, Setting, AreMoments, Counts, CutOff, IsPlaced, is_waiting, left_by, sent_to, written}
-use Rattle.ecr_model.specs.Stream.{Point, start, grown, past, closes, Begins}
+use Rattle.ecr_model.specs.Stream.{Point, start, grown, past, Begins}
 use Rattle.ecr_model.proofs.SessionLemmas.{AreCuts-lengths, AreCuts-more, ArePlaces-more, left_after-more, replies-more, replies-beyond}
 use Rattle.ecr_model.proofs.StreamLemmas.{Begins-more}
 use Rattle.ecr_desk.specs.Desks.{Seen}
 use Rattle.ecr_http.specs.Reading.{Nexts}
 use Rattle.ecr_http.specs.Sends.{Sends}
 use Rattle.ecr_http.specs.declared.events.Event.TheVariants as events
-use Rattle.ecr_http.specs.declared.reply.HttpReply.{HttpReply}
 use Rattle.ecr_http.specs.declared.write.Sent.{Sent}
 use Rattle.ecr_http.specs.declared.write.Sent.TheVariants.{Done, WriteFault}
-use Rattle.ecr_session.specs.Serving.{reply_bytes, Answers, IsTime, SoFar, HasCome, GoesOn, Serviced, ServesRequest, account_of, with_request, entries_in}
+use Rattle.ecr_session.specs.Serving.{IsTime, SoFar, HasCome, GoesOn, Serviced, ServesRequest, account_of, with_request}
 use Rattle.ecr_session.specs.declared.session.Session.{Session}
 use Rattle.ecr_session.proofs.EndLemmas.{begins_grown, Completed-closed}
 
@@ -37,26 +35,6 @@ HasCome-room set before mid old now seen account reader s = record {
 }
 
 -- ---- a request
-
--- a request that was answered, and whose reply was sent, or a part of it, was serviced
-pub Serviced-answered : (fixed : Option ℕ) (request : Request) (before after : Outside) (old now : Session) (seen later : Seen) (moment : ℕ) (reply : Option HttpReply) (places : List Place) (cut : Cut) (sent : Sent)
-    → IsTime fixed before.told after.told moment → Answers seen later moment request reply places cut → account_of now ≡ with_request (account_of old) moment places cut
-    → now.reader ≡ old.reader → after.left ≡ before.left → Sends before.held after.held (reply_bytes (is_head request) (closes request) reply) sent
-    → Serviced fixed request before old seen after now later sent
-Serviced-answered fixed request before after old now seen later moment reply places cut sent timed answers added kept left sends = record {
-  moment = moment;
-  places = places;
-  cut = cut;
-  timed = timed;
-  added = added;
-  realm_stays = answers.realm_stays;
-  leaves = answers.leaves;
-  counts = answers.counts;
-  placed = answers.placed;
-  reader = kept;
-  left = left;
-  sends = subst (λ l. Sends before.held after.held l sent) answers.bytes sends;
-}
 
 -- one more moment
 AreMoments-more : (fixed : Option ℕ) (before mid after : Option (List ℕ)) (cuts : List Cut) (cut : Cut) (moments : List ℕ) (moment : ℕ)
@@ -217,7 +195,3 @@ GoesOn-request set before mid between after point old now seen later request (So
 GoesOn-request set before mid between after point old now seen later request (Some ends.Spent) realm s opened n told v reads told_later writes cause = absurd v
 
 -- ---- entries
-
--- one cut more adds its entries
-pub entries_in-more : (cuts : List Cut) (cut : Cut) → entries_in (cuts ++ cut ∷ []) ≡ entries_in cuts + cut.entries
-entries_in-more cuts cut = sum_by_push (λ (c : Cut). c.entries) cuts cut

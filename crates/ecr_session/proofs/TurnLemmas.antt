@@ -27,11 +27,6 @@ use Rattle.ecr_session.specs.Turns.{RanWith, StoppedWith, LeadsTo, IsDescribed, 
 pub RanWith-ends : {A : Type 0} (seen : Seen) (answer : A) (old : List Place) → RanWith seen seen (ends answer) answer old old
 RanWith-ends seen answer old = record { places = []; added = sym (append-nil old); ran = Ran-ends seen answer }
 
--- the places of a run stand behind the others
-pub RanWith-ran : {A : Type 0} (before after : Seen) (script : Script A) (answer : A) (places old now : List Place) → now ≡ old ++ places
-    → Ran before after script answer places → RanWith before after script answer old now
-RanWith-ran before after script answer places old now added ran = record { places = places; added = added; ran = ran }
-
 -- no turn was made
 pub StoppedWith-nothing : {A : Type 0} (seen : Seen) (script : Script A) (old now : List Place) → now ≡ old → StoppedWith seen seen script old now
 StoppedWith-nothing seen script old now same = record {
@@ -135,9 +130,6 @@ StoppedWith-then before mid after script next a old more now one other = record 
 }
 
 -- ---- a whole script, turn by turn
-
-pub LeadsTo-start : {A : Type 0} (seen : Seen) (script : Script A) (places : List Place) → LeadsTo seen seen script script places places
-LeadsTo-start seen script places = record { ran = λ later answer last w. w; stopped = λ later last s. s }
 
 pub LeadsTo-then : {A B : Type 0} (before now next_seen : Seen) (whole : Script B) (script : Script A) (next : A → Script B) (a : A) (old places more : List Place)
     → LeadsTo before now whole (then_do script next) old places → RanWith now next_seen script a places more → LeadsTo before next_seen whole (next a) old more
