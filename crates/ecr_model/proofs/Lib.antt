@@ -13,6 +13,7 @@ pub mod ExampleLemmas
 pub mod ChunkExampleLemmas
 pub mod CommandLemmas
 pub mod JournalLemmas
+pub mod GrowthLemmas
 pub mod JournalExampleLemmas
 pub mod StepLemmas
 pub mod ApiExampleLemmas

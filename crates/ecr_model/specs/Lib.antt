@@ -19,6 +19,7 @@ pub mod Members
 pub mod Actions
 pub mod Manifests
 pub mod Journals
+pub mod Growth
 pub mod Steps
 pub mod Directories
 pub mod Replies

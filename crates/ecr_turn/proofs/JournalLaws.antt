@@ -3,9 +3,10 @@ use Rattle.std.proofs.Common.{◌≡◌, ◌≢◌, ℕ, ◌<◌, ◌≤◌, Boo
 use Rattle.std.proofs.lemmas.List.Elements.{filter-append}
 use Rattle.ecr_model.specs.declared.journal.Line.{Line}
 use Rattle.ecr_model.specs.Journals.{below}
-use Rattle.ecr_turn.specs.Journals.{Each, Rises, of_caller}
+use Rattle.ecr_model.specs.Growth.{Each, Rises}
+use Rattle.ecr_turn.specs.Journals.{of_caller}
 use Rattle.ecr_turn.specs.Laws.{WhatStoodStays, OthersAddNoneOfMine, ATurnAddsItsOwn}
-use Rattle.ecr_turn.proofs.Journals.{Rises-each}
+use Rattle.ecr_model.proofs.GrowthLemmas.{Rises-each}
 
 below-none : (ticket past : ℕ) (ls : List Line) → ticket ≤ past → Each (λ l. past ≤ l.ticket) ls → below ticket ls ≡ []
 below-none ticket past [] le all = refl

@@ -1,48 +1,14 @@
--- Laws of journals: rising tickets, and a journal that others make longer.
-use Rattle.std.proofs.Common.{◌≡◌, ◌≢◌, ℕ, suc, ◌+◌, ◌<◌, ◌≤◌, true, false, ◌⊎◌, eqb, eq-eqb, ne_eqb, ⊎_elim, inl, inr, List, [], ◌∷◌, ◌++◌, length, refl, sym, ap, ◌∙◌, subst, arith, append_assoc, append-nil, length-append}
+-- Laws of journals: a journal that may follow, and the longer of two.
+use Rattle.std.proofs.Common.{◌≡◌, ◌≢◌, ℕ, ◌+◌, ◌≤◌, true, false, ◌⊎◌, eqb, eq-eqb, ne_eqb, ⊎_elim, inl, inr, List, [], ◌∷◌, ◌++◌, length, refl, sym, ap, ◌∙◌, subst, arith, append-nil, length-append, max}
 use Rattle.ecr_model.specs.declared.journal.Line.{Line}
 use mathlib.Core.Bool.{not}
-use Rattle.ecr_turn.specs.Journals.{Each, Rises, Grows, Follows, IsBeginning, MayFollow, longer_of}
-use Rattle.std.proofs.Common.{max}
+use Rattle.ecr_model.specs.Growth.{Each, Grows, Follows}
+use Rattle.ecr_turn.specs.Journals.{IsBeginning, MayFollow, longer_of}
+use Rattle.ecr_model.proofs.GrowthLemmas.{Each-weaker, Each-right, Each-left, Each-both}
 use Rattle.ecr_turn.proofs.Views.{off}
 
 pub max_least : (a b c : ℕ) → a ≤ c → b ≤ c → max a b ≤ c
 max_least a b c p q = omega arith
-
-pub Each-snoc : (P : Line → Type 0) (ls : List Line) (l : Line) → Each P ls → P l → Each P (ls ++ l ∷ [])
-Each-snoc P [] l all p = (p, tt)
-Each-snoc P (x ∷ ls) l all p = (all.0, Each-snoc P ls l all.1 p)
-
-pub Each-weaker : (P Q : Line → Type 0) → ((l : Line) → P l → Q l) → (ls : List Line) → Each P ls → Each Q ls
-Each-weaker P Q f [] all = tt
-Each-weaker P Q f (x ∷ ls) all = (f x all.0, Each-weaker P Q f ls all.1)
-
-pub Rises-higher : (low : ℕ) (ls : List Line) (high more : ℕ) → high ≤ more → Rises low ls high → Rises low ls more
-Rises-higher low [] high more le r = omega arith
-Rises-higher low (x ∷ ls) high more le r = (r.0, Rises-higher (suc x.ticket) ls high more le r.1)
-
-pub Rises-snoc : (low : ℕ) (ls : List Line) (l : Line) (high : ℕ) → l.ticket ≡ high → Rises low ls high → Rises low (ls ++ l ∷ []) (suc high)
-Rises-snoc low [] l high e r = (omega arith, omega arith)
-Rises-snoc low (x ∷ ls) l high e r = (r.0, Rises-snoc (suc x.ticket) ls l high e r.1)
-
-pub Rises-length : (low : ℕ) (ls : List Line) (high : ℕ) → Rises low ls high → low + length ls ≤ high
-Rises-length low [] high r = omega arith
-Rises-length low (x ∷ ls) high r = let h = Rises-length (suc x.ticket) ls high r.1 in let h' = r.0 in omega arith
-
-pub Rises-each : (low : ℕ) (ls : List Line) (high : ℕ) → Rises low ls high → Each (λ l. l.ticket < high) ls
-Rises-each low [] high r = tt
-Rises-each low (x ∷ ls) high r = (let h = Rises-length (suc x.ticket) ls high r.1 in omega arith, Rises-each (suc x.ticket) ls high r.1)
-
-pub Grows-none : (caller past : ℕ) (log : List Line) → Grows caller past log log
-Grows-none caller past log = record { news = []; longer = sym (append-nil log); others = tt; later = tt }
-
-pub Grows-snoc : (caller past : ℕ) (before after : List Line) (l : Line) → Grows caller past before after → l.caller ≢ caller → past ≤ l.ticket → Grows caller past before (after ++ l ∷ [])
-Grows-snoc caller past before after l g other late = record {
-  news = g.news ++ l ∷ [];
-  longer = ap (λ (ys : List Line). ys ++ l ∷ []) g.longer ∙ append_assoc before g.news (l ∷ []);
-  others = Each-snoc (λ l. l.caller ≢ caller) g.news l g.others other;
-  later = Each-snoc (λ l. past ≤ l.ticket) g.news l g.later late;
-}
 
 abbrev Longer : ℕ → ℕ → List Line → List Line → Type 0
 Longer ticket caller before after = (l : Line) × (after ≡ before ++ l ∷ []) × (l.ticket ≡ ticket) × (l.caller ≡ caller)
@@ -58,39 +24,6 @@ MayFollow-same ticket caller entries count before after may is was same = ⊎_el
 pub MayFollow-longer : (ticket caller entries count : ℕ) (before after : List Line) → MayFollow ticket caller before after → entries ≡ length after → count ≡ length before → not (eqb entries count) ≡ true → Longer ticket caller before after
 MayFollow-longer ticket caller entries count before after may is was grown = ⊎_elim (λ (e : after ≡ before). absurd (off (sym (ap not (eq-eqb entries count (is ∙ (ap length e ∙ sym was)))) ∙ grown)))
     (λ (l : Longer ticket caller before after). l) may
-
-pub Each-right : (P : Line → Type 0) (xs ys : List Line) → Each P (xs ++ ys) → Each P ys
-Each-right P [] ys all = all
-Each-right P (x ∷ xs) ys all = Each-right P xs ys all.1
-
-pub Each-left : (P : Line → Type 0) (us vs : List Line) → Each P (us ++ vs) → Each P us
-Each-left P [] vs all = tt
-Each-left P (u ∷ us) vs all = (all.0, Each-left P us vs all.1)
-
-pub Each-both : (P Q : Line → Type 0) (ls : List Line) → Each P ls → Each Q ls → Each (λ l. P l × Q l) ls
-Each-both P Q [] a b = tt
-Each-both P Q (x ∷ ls) a b = ((a.0, b.0), Each-both P Q ls a.1 b.1)
-
-at_least_none : (ls : List Line) → Each (λ l. 0 ≤ l.ticket) ls
-at_least_none [] = tt
-at_least_none (x ∷ ls) = (omega arith, at_least_none ls)
-
-pub Follows-first : (log : List Line) → Follows 0 [] log
-Follows-first log = record { news = log; longer = refl; later = at_least_none log }
-
-pub Follows-snoc : (past : ℕ) (before after : List Line) (l : Line) → Follows past before after → past ≤ l.ticket → Follows past before (after ++ l ∷ [])
-Follows-snoc past before after l g late = record {
-  news = g.news ++ l ∷ [];
-  longer = ap (λ (ys : List Line). ys ++ l ∷ []) g.longer ∙ append_assoc before g.news (l ∷ []);
-  later = Each-snoc (λ l. past ≤ l.ticket) g.news l g.later late;
-}
-
-pub Grows-follows : (caller past : ℕ) (before after : List Line) → Grows caller past before after → Follows past before after
-Grows-follows caller past before after g = record { news = g.news; longer = g.longer; later = g.later }
-
--- a caller of whom no entry stands in the journal
-pub Grows-unnamed : (caller past n : ℕ) (before after : List Line) → Grows caller past before after → Each (λ l. l.caller ≢ n) after → Grows n past before after
-Grows-unnamed caller past n before after g all = record { news = g.news; longer = g.longer; others = Each-right (λ l. l.caller ≢ n) before g.news (subst (Each (λ l. l.caller ≢ n)) g.longer all); later = g.later }
 
 pub longer_of-nil : (xs : List Line) → longer_of xs [] ≡ xs
 longer_of-nil [] = refl

@@ -15,7 +15,8 @@ use Rattle.ecr_turn.specs.Turns.{named_of, in_turn, has_recorded, is_live, HasTi
 use Rattle.ecr_turn.specs.Rule.{NoneOf, Order, Kept}
 use Rattle.ecr_turn.specs.Laws.{Shows}
 use Rattle.ecr_turn.proofs.Views.{off, turn_ticket}
-use Rattle.ecr_turn.proofs.Journals.{Each-weaker, Rises-each, ordered}
+use Rattle.ecr_model.proofs.GrowthLemmas.{Each-weaker, Rises-each}
+use Rattle.ecr_turn.proofs.Journals.{ordered}
 
 none_more : (test : Stage → Bool) (x : View) (xs : List View) → test x.stage ≡ false → NoneOf test xs → (j : ℕ) (v : View) → get_elem? (x ∷ xs) j ≡ some v → test v.stage ≡ false
 none_more test x xs isn't rest zero v e = subst (λ (z : View). test z.stage ≡ false) (some-injective x v e) isn't

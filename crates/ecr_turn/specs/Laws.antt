@@ -6,7 +6,8 @@ use Rattle.ecr_model.specs.declared.journal.Line.{Line}
 use Rattle.ecr_model.specs.declared.journal.Frame.{Frame}
 use Rattle.ecr_turn.specs.declared.board.View.{View}
 use Rattle.ecr_model.specs.Journals.{below}
-use Rattle.ecr_turn.specs.Journals.{Grows, Follows, MayFollow, of_caller}
+use Rattle.ecr_model.specs.Growth.{Grows, Follows}
+use Rattle.ecr_turn.specs.Journals.{MayFollow, of_caller}
 use Rattle.ecr_turn.specs.Turns.{Numbers, SevenPoints}
 use Rattle.ecr_turn.specs.Rule.{Kept}
 

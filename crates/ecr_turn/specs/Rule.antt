@@ -8,7 +8,7 @@ use Rattle.ecr_model.specs.declared.journal.Frame.{Frame}
 use Rattle.ecr_turn.specs.declared.board.View.{View}
 use Rattle.ecr_turn.specs.declared.board.Stage.{Stage}
 use Rattle.ecr_turn.specs.declared.board.Stage.TheVariants.{Idle}
-use Rattle.ecr_turn.specs.Journals.{Each, Rises, Grows, Follows}
+use Rattle.ecr_model.specs.Growth.{Each, Rises, Grows, Follows}
 use Rattle.ecr_turn.specs.Turns.{named_of, in_turn, has_learned, is_found, found_seen, has_recorded, is_live, joined_past, joined_seen, HasTicket, HasNumber, HasSeen, Every, SomeOne, One}
 
 -- the first pass: it has seen nothing

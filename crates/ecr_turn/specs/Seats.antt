@@ -6,7 +6,7 @@ use Rattle.ecr_model.specs.declared.journal.Line.{Line}
 use Rattle.ecr_model.specs.declared.journal.Frame.{Frame}
 use Rattle.ecr_turn.specs.declared.board.View.{View}
 use Rattle.ecr_turn.specs.declared.board.Stage.TheVariants.{Idle, Holds}
-use Rattle.ecr_turn.specs.Journals.{Grows, Rises}
+use Rattle.ecr_model.specs.Growth.{Grows, Rises}
 use Rattle.ecr_turn.specs.Turns.{has_learned, HasTicket}
 use Rattle.ecr_turn.specs.Passes.{Known}
 use Rattle.ecr_turn.specs.Steps.{finding, holding}

@@ -6,7 +6,8 @@ use Rattle.ecr_model.specs.declared.journal.Frame.{Frame}
 use Rattle.ecr_turn.specs.declared.board.View.{View}
 use Rattle.ecr_turn.specs.declared.board.Stage.TheVariants.{Idle, Waits, Found, Holds, Recorded, Named, Joined, Spent}
 use Rattle.ecr_turn.specs.declared.board.Stage.{Stage}
-use Rattle.ecr_turn.specs.Journals.{Each, Grows, Follows, Rises, longer_of}
+use Rattle.ecr_model.specs.Growth.{Each, Grows, Follows, Rises}
+use Rattle.ecr_turn.specs.Journals.{longer_of}
 use Rattle.ecr_turn.specs.Turns.{HasTicket, joined_past, joined_seen}
 use Rattle.ecr_turn.specs.Passes.{no_frame}
 

@@ -8,7 +8,8 @@ use Rattle.ecr_model.specs.declared.journal.Frame.{Frame}
 use Rattle.ecr_turn.specs.declared.board.View.{View}
 use Rattle.ecr_turn.specs.declared.board.Stage.{Stage}
 use Rattle.ecr_turn.specs.declared.board.Stage.TheVariants.{Idle, Waits, Found, Holds, Recorded, Named, Joined, Spent}
-use Rattle.ecr_turn.specs.Journals.{Each, Rises, IsBeginning, IsLonger, longer_of}
+use Rattle.ecr_model.specs.Growth.{Each, Rises}
+use Rattle.ecr_turn.specs.Journals.{IsBeginning, IsLonger, longer_of}
 
 -- the ticket of a pass that waits or is in its turn
 abbrev pub ticket_of : Stage → Option ℕ

@@ -3,7 +3,7 @@
 ghost use Rattle.std.specs.Prelude.{◌≡◌, ◌≤◌, ◌+◌, ◌++◌, ◌∷◌, [], List, OnOk, OnErr};
 ghost use Rattle.ecr_model.specs.declared.journal.Line.{Line as SpecLine};
 ghost use Rattle.ecr_model.specs.Journals.{below};
-ghost use Rattle.ecr_turn.specs.Journals.{Grows, Follows};
+ghost use Rattle.ecr_model.specs.Growth.{Grows, Follows};
 ghost use Rattle.ecr_turn.specs.Passes.{IsSamePass, no_frame};
 ghost use Rattle.ecr_turn.specs.Register.{value_of};
 

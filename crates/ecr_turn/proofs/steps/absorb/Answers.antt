@@ -1,5 +1,6 @@
 use Rattle.std.proofs.Common.{rules, ◌⊎◌, ap, sym, subst, ◌∙◌}
-use Rattle.ecr_turn.specs.Journals.{Grows, Follows, IsBeginning, longer_of}
+use Rattle.ecr_model.specs.Growth.{Grows, Follows}
+use Rattle.ecr_turn.specs.Journals.{IsBeginning, longer_of}
 use Rattle.ecr_turn.specs.Steps.{merged}
 use Rattle.ecr_turn.proofs.Journals.{ordered}
 use Rattle.ecr_turn.proofs.Moves.{may_join, may_take_in}
