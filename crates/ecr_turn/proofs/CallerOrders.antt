@@ -1,5 +1,5 @@
 -- The steps that make and join callers keep the order of turns and the one journal.
-use Rattle.std.proofs.Common.{◌≡◌, ◌≢◌, ℕ, suc, ◌<◌, true, List, [], ◌∷◌, ◌++◌, set, Option, Some, refl, sym, ap, ◌∙◌, subst, ⊎_elim, inl, inr, arith}
+use Rattle.std.proofs.Common.{◌≡◌, ◌≢◌, ℕ, suc, ◌<◌, ◌≤◌, true, List, [], ◌∷◌, ◌++◌, set, Option, Some, refl, sym, ap, ◌∙◌, subst, ⊎_elim, inl, inr, arith}
 use mathlib.Core.Option.{some, none}
 use mathlib.Core.Option as maybe
 use lib.ListN.{get_elem?}
@@ -26,10 +26,11 @@ module _ {B : Type 0} (lines : B → List Line) (frame : B → Frame) (fixed : F
   Rule = Order lines frame fixed
 
   pub names : (c n s k : ℕ) (h : Home) (vs : List View) (o : Rule c n s k h vs) (id : ℕ) (v : View) → get_elem? vs id ≡ some v → v.stage ≡ Idle
-      → (k ≢ v.caller) × Each (λ l. l.caller ≢ k) v.seen × Rule c n s (suc k) h (set vs id (naming k v))
+      → (k ≢ v.caller) × Each (λ l. l.caller ≢ k) v.seen × (v.callers ≤ k) × Rule c n s (suc k) h (set vs id (naming k v))
   names c n s k h vs o id v at idle = let w : View = naming k v in let mine = o.each id v at in let live : is_live v.stage ≡ true = ap is_live idle in let known = mine.known live in let low = known.0 in let g = known.1 in (
     (λ e. omega arith),
     Each-weaker (λ l. l.caller < k) (λ l. l.caller ≢ k) (λ l lt e. omega arith) v.seen (Each-left (λ l. l.caller < k) v.seen g.news (subst (Each (λ l. l.caller < k)) g.longer o.numbered)),
+    mine.aware,
     record {
       log = o.log;
       counted = o.counted;
@@ -40,6 +41,7 @@ module _ {B : Type 0} (lines : B → List Line) (frame : B → Frame) (fixed : F
       numbered = Each-weaker (λ l. l.caller < k) (λ l. l.caller < suc k) (λ l lt. omega arith) o.log o.numbered;
       each = set_each (Suits o.log n s (suc k) fixed) vs id w record {
         known = λ _. (omega arith, known.1);
+        aware = omega arith;
         behind = mine.behind;
         framed = λ _. mine.framed live;
         drawn = λ t e. absurd (none_some t e);
@@ -51,6 +53,7 @@ module _ {B : Type 0} (lines : B → List Line) (frame : B → Frame) (fixed : F
         joined = (omega arith, Follows-first _);
       } (λ j u other there. let its = o.each j u there in record {
         known = λ e. let q = its.known e in let q₀ = q.0 in (omega arith, q.1);
+        aware = let a = its.aware in omega arith;
         behind = its.behind;
         framed = its.framed;
         drawn = its.drawn;
@@ -78,6 +81,7 @@ module _ {B : Type 0} (lines : B → List Line) (frame : B → Frame) (fixed : F
   splits c n s k h vs o id v at y names_ = let mine = o.each id v at in let live : is_live v.stage ≡ true = ap is_live names_ in let p = mine.promised y (ap named_of names_) in let l : View = settled v in let r : View = newborn v in
       let num : number_of v.stage ≡ y = ap number_of names_ in let kept = mine.known live in let suits : Suits o.log n s k fixed l = record {
         known = λ _. kept;
+        aware = mine.aware;
         behind = mine.behind;
         framed = λ _. mine.framed live;
         drawn = λ t e. absurd (none_some t e);
@@ -97,6 +101,7 @@ module _ {B : Type 0} (lines : B → List Line) (frame : B → Frame) (fixed : F
         numbered = o.numbered;
         each = snoc_each (Suits o.log n s k fixed) (set vs id l) r record {
           known = λ _. subst (λ (z : ℕ). (z < k) × Grows z v.past v.seen o.log) (sym num) (p.0, Grows-unnamed v.caller v.past y v.seen o.log kept.1 p.2);
+          aware = mine.aware;
           behind = mine.behind;
           framed = λ _. mine.framed live;
           drawn = λ t e. absurd (none_some t e);
@@ -123,6 +128,7 @@ module _ {B : Type 0} (lines : B → List Line) (frame : B → Frame) (fixed : F
       let its = o.each other w (sym (set_else vs id other b apart) ∙ there) in let theirs = its.known (ap is_live rested) in
       let q : Rule c n s k h (set vs id b) = rests lines frame fixed c n s k h vs o id v b at (ap ticket_of idle) (ap in_turn idle) (ap has_recorded idle) refl record {
         known = λ _. mine.known live;
+        aware = max_least v.callers w.callers k mine.aware its.aware;
         behind = mine.behind;
         framed = λ _. mine.framed live;
         drawn = λ t e. absurd (none_some t e);
@@ -136,6 +142,7 @@ module _ {B : Type 0} (lines : B → List Line) (frame : B → Frame) (fixed : F
       let here = set_at vs id v b at in let seen = (q.each id b here).known refl in
       rests lines frame fixed c n s k h (set vs id b) q other w spent there (ap ticket_of rested) (ap in_turn rested) (ap has_recorded rested) refl record {
         known = λ e. absurd (off e);
+        aware = omega arith;
         behind = omega arith;
         framed = λ e. absurd (off e);
         drawn = λ t e. absurd (none_some t e);
@@ -154,6 +161,7 @@ module _ {B : Type 0} (lines : B → List Line) (frame : B → Frame) (fixed : F
         subst (λ (z : ℕ × List Line). Follows z.0 z.1 (longer_of v.seen z.1)) (λ i. (is_p i, is_ls i)) (Follows-longer_of v.caller v.past jp v.seen js o.log g f),
         rests lines frame fixed c n s k h vs o id v (merged v) at (ap ticket_of joins_) (ap in_turn joins_) (ap has_recorded joins_) refl record {
           known = λ _. (known.0, Grows-merged v.caller v.past jp v.seen js o.log g f);
+          aware = mine.aware;
           behind = max_least v.past jp s mine.behind mine.joined.0;
           framed = λ _. mine.framed live;
           drawn = λ t e. absurd (none_some t e);

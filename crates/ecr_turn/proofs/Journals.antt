@@ -10,6 +10,9 @@ use Rattle.ecr_turn.proofs.Views.{off}
 pub max_least : (a b c : ℕ) → a ≤ c → b ≤ c → max a b ≤ c
 max_least a b c p q = omega arith
 
+pub max_left : (a b : ℕ) → a ≤ max a b
+max_left a b = omega arith
+
 abbrev Longer : ℕ → ℕ → List Line → List Line → Type 0
 Longer ticket caller before after = (l : Line) × (after ≡ before ++ l ∷ []) × (l.ticket ≡ ticket) × (l.caller ≡ caller)
 

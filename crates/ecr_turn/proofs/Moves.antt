@@ -1,5 +1,5 @@
 -- Each kind of step may be made: whatever the table is, the rule goes on to hold.
-use Rattle.std.proofs.Common.{◌≡◌, ◌≢◌, ℕ, zero, suc, ◌+◌, ◌%◌, ◌^◌, ◌<◌, eqb, true, List, [], ◌∷◌, ◌++◌, get_or, set, Option, Some, None, refl, sym, ap, ◌∙◌, subst, arith}
+use Rattle.std.proofs.Common.{◌≡◌, ◌≢◌, ℕ, zero, suc, ◌+◌, ◌%◌, ◌^◌, ◌<◌, ◌≤◌, eqb, true, List, [], ◌∷◌, ◌++◌, get_or, set, Option, Some, None, refl, sym, ap, ◌∙◌, subst, arith}
 use mathlib.Core.Logic.{dite}
 use mathlib.Core.Option.{some, none, some-injective, some-ne-none}
 use mathlib.Core.Option as maybe
@@ -199,6 +199,7 @@ module _ {B : Type 0} (lines : B → List Line) (frame : B → Frame) (fixed : F
       numbered = tt;
       each = only (Suits [] 0 0 1 fixed) (newcomer fixed) record {
         known = λ _. (omega arith, Grows-none 0 0 []);
+        aware = omega arith;
         behind = omega arith;
         framed = λ _. refl;
         drawn = λ t e. absurd (none_some t e);
@@ -232,10 +233,10 @@ module _ {B : Type 0} (lines : B → List Line) (frame : B → Frame) (fixed : F
           home = r.home;
           words_are = ap (λ (ws : List ℕ). set ws 3 (old + 1)) r.words_are ∙ ap (λ (z : ℕ). r.count ∷ r.tickets ∷ r.serving ∷ z ∷ []) (let e : old + 1 ≡ suc old = omega arith in e);
           homes_are = r.homes_are;
-          order = subst (λ (z : ℕ). Order lines frame fixed r.count r.tickets r.serving (suc z) r.home (set s.views id (naming z me.0))) callers q.2;
+          order = subst (λ (z : ℕ). Order lines frame fixed r.count r.tickets r.serving (suc z) r.home (set s.views id (naming z me.0))) callers q.3;
         },
         (
-          (λ e. (ap (λ (z : ℕ). (naming z me.0, me.1)) (sym e), subst (λ (z : ℕ). z ≢ me.0.caller) (sym is) q.0, subst (λ (z : ℕ). Each (λ l. l.caller ≢ z) me.0.seen) (sym is) q.1)),
+          (λ e. (ap (λ (z : ℕ). (naming z me.0, me.1)) (sym e), subst (λ (z : ℕ). z ≢ me.0.caller) (sym is) q.0, subst (λ (z : ℕ). Each (λ l. l.caller ≢ z) me.0.seen) (sym is) q.1, subst (λ (z : ℕ). me.0.callers ≤ z) (sym is) q.2)),
           λ not_. absurd (not_ hit),
         ),
       ))

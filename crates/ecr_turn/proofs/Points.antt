@@ -93,6 +93,7 @@ module _ {B : Type 0} (lines : B → List Line) (frame : B → Frame) (fixed : F
     entries = o.numbered;
     to_come = λ j v at m e. ((o.each j v at).promised m e).2;
     own = λ j v at live. let g = ((o.each j v at).known live).1 in (g.news, g.longer, g.others);
+    aware = λ j v at. (o.each j v at).aware;
   }
 
   fifth : StateIsKept lines frame fixed h vs o.log

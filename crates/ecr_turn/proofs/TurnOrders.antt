@@ -37,6 +37,7 @@ module _ {B : Type 0} (lines : B → List Line) (frame : B → Frame) (fixed : F
     numbered = o.numbered;
     each = set_each (Suits o.log (suc n) s k fixed) vs id w record {
       known = λ _. mine.known (ap is_live idle);
+      aware = mine.aware;
       behind = mine.behind;
       framed = λ _. mine.framed (ap is_live idle);
       drawn = λ t e. let e' : n ≡ t = same_some n t e in (omega arith, omega arith);
@@ -47,6 +48,7 @@ module _ {B : Type 0} (lines : B → List Line) (frame : B → Frame) (fixed : F
       joined = (omega arith, Follows-first _);
     } (λ j u other there. let its = o.each j u there in record {
       known = its.known;
+      aware = its.aware;
       behind = its.behind;
       framed = its.framed;
       drawn = λ t e. let d = its.drawn t e in let d₁ = d.1 in (d.0, omega arith);
@@ -88,6 +90,7 @@ module _ {B : Type 0} (lines : B → List Line) (frame : B → Frame) (fixed : F
           numbered = o.numbered;
           each = set_each (Suits o.log n s k fixed) vs id w record {
             known = λ _. known;
+            aware = mine.aware;
             behind = mine.behind;
             framed = λ _. mine.framed live;
             drawn = λ t e. mine.drawn t (ticket ∙ e);
@@ -127,6 +130,7 @@ module _ {B : Type 0} (lines : B → List Line) (frame : B → Frame) (fixed : F
           numbered = o.numbered;
           each = set_each (Suits o.log n s k fixed) vs id w record {
             known = λ _. (known.0, subst (λ (z : List Line). Grows v.caller v.past z o.log) (sym is) (Grows-none v.caller v.past o.log));
+            aware = mine.aware;
             behind = mine.behind;
             framed = λ _. mine.framed live;
             drawn = λ u e. mine.drawn u (ticket ∙ e);
@@ -167,6 +171,7 @@ module _ {B : Type 0} (lines : B → List Line) (frame : B → Frame) (fixed : F
           numbered = Each-snoc (λ (x : Line). x.caller < k) o.log l o.numbered (subst (λ (z : ℕ). z < k) (sym by) known.0);
           each = set_each (Suits log n s k fixed) vs id w record {
             known = λ _. (known.0, subst (λ (z : List Line). Grows v.caller v.past z log) (sym is) (Grows-none v.caller v.past log));
+            aware = mine.aware;
             behind = mine.behind;
             framed = λ _. mine.framed live;
             drawn = λ u e. mine.drawn u (ticket ∙ e);
@@ -181,6 +186,7 @@ module _ {B : Type 0} (lines : B → List Line) (frame : B → Frame) (fixed : F
               Grows-snoc u.caller u.past u.seen o.log l k'.1
                   (λ same. other (o.one_caller v.caller j id u v there at (inl (e, sym same ∙ by)) (inl (live, refl)))) late,
             );
+            aware = its.aware;
             behind = its.behind;
             framed = its.framed;
             drawn = its.drawn;
@@ -221,6 +227,7 @@ module _ {B : Type 0} (lines : B → List Line) (frame : B → Frame) (fixed : F
           numbered = o.numbered;
           each = set_each (Suits o.log n (suc s) k fixed) vs id w record {
             known = λ _. (known.0, subst (λ (z : List Line). Grows v.caller (suc t) z o.log) (sym whole) (Grows-none v.caller (suc t) o.log));
+            aware = mine.aware;
             behind = omega arith;
             framed = λ _. mine.framed live;
             drawn = λ u e. absurd (none_some u e);
@@ -231,6 +238,7 @@ module _ {B : Type 0} (lines : B → List Line) (frame : B → Frame) (fixed : F
             joined = (omega arith, Follows-first _);
           } (λ j u other there. let its = o.each j u there in let out = nobody j u other there in let behind = its.behind in record {
             known = its.known;
+            aware = its.aware;
             behind = omega arith;
             framed = its.framed;
             drawn = λ x e. let d = its.drawn x e in (above x d.0 (λ same. other (o.one_holder s j id u v there at (e ∙ ap (λ (z : ℕ). let y : Option ℕ = Some z in y) same) served)), d.1);

@@ -1,5 +1,5 @@
 -- Laws of turns and of journals.
-use Rattle.std.specs.Prelude.{◌≡◌, ◌⊎◌, ℕ, ◌≤◌, List, [], ◌∷◌, ◌++◌, Option}
+use Rattle.std.specs.Prelude.{◌≡◌, ◌⊎◌, ℕ, ◌<◌, ◌≤◌, List, [], ◌∷◌, ◌++◌, Option}
 use mathlib.Core.Option as maybe
 use Rattle.atomic_table.specs.Table.{State}
 use Rattle.ecr_model.specs.declared.journal.Line.{Line}
@@ -8,6 +8,7 @@ use Rattle.ecr_turn.specs.declared.board.View.{View}
 use Rattle.ecr_model.specs.Journals.{below}
 use Rattle.ecr_model.specs.Growth.{Grows, Follows}
 use Rattle.ecr_turn.specs.Journals.{MayFollow, of_caller}
+use Rattle.ecr_turn.specs.Passes.{Known, IsNewCaller}
 use Rattle.ecr_turn.specs.Turns.{Numbers, SevenPoints}
 use Rattle.ecr_turn.specs.Rule.{Kept}
 
@@ -38,3 +39,9 @@ ATurnAddsItsOwn =
     (ticket caller : ℕ) (before after : List Line) → MayFollow ticket caller before after
     → (of_caller caller after ≡ of_caller caller before)
     ⊎ ((l : Line) × (after ≡ before ++ l ∷ []) × (l.ticket ≡ ticket) × (of_caller caller after ≡ of_caller caller before ++ l ∷ []))
+
+-- passes that are split one after another from a pass that forgets none of their numbers have rising numbers, so that no two are the same
+abbrev pub SplitsRise : Type 0
+SplitsRise =
+    (before after later last one two : Known) → IsNewCaller before after one → after.callers ≤ later.callers → IsNewCaller later last two
+    → one.caller < two.caller

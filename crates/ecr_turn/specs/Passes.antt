@@ -1,5 +1,5 @@
 -- What contracts see of a turnstile, of a pass and of a turn.
-use Rattle.std.specs.Prelude.{◌≡◌, ℕ, List, [], Option, Some, None}
+use Rattle.std.specs.Prelude.{◌≡◌, ◌≤◌, ◌+◌, ℕ, List, [], Option, Some, None}
 use Rattle.atomic_table.specs.Seated.{TableId}
 use Rattle.ecr_model.specs.declared.journal.Line.{Line}
 use Rattle.ecr_model.specs.declared.journal.Frame.{Frame}
@@ -10,10 +10,11 @@ pub record Gate : Type 0 where
   pub table : TableId
   pub frame : Frame
 
--- what a pass knows: its turnstile, the number of its caller, one more than the last ticket that it knows to be passed on, and the journal that it has seen
+-- what a pass knows: its turnstile, the number of its caller, how many callers' numbers are given out, one more than the last ticket that it knows to be passed on, and the journal that it has seen
 pub record Known : Type 0 where
   pub gate : Gate
   pub caller : ℕ
+  pub callers : ℕ
   pub past : ℕ
   pub seen : List Line
 
@@ -25,15 +26,19 @@ pub record TurnOf (S : Type 0) : Type 0 where
 
 -- the first pass of a turnstile: it has seen nothing
 abbrev pub first_pass : Gate → Known
-first_pass gate = record { gate = gate; caller = 0; past = 0; seen = [] }
+first_pass gate = record { gate = gate; caller = 0; callers = 1; past = 0; seen = [] }
 
--- a pass of the same turnstile and caller
+-- a pass of the same turnstile and caller, which forgets no number that was given out
 abbrev pub IsSamePass : Known → Known → Type 0
-IsSamePass p q = (q.gate ≡ p.gate) × (q.caller ≡ p.caller)
+IsSamePass p q = (q.gate ≡ p.gate) × (q.caller ≡ p.caller) × (p.callers ≤ q.callers)
 
 -- a pass of the same turnstile, which has seen the same
 abbrev pub IsAsWise : Known → Known → Type 0
 IsAsWise p q = (q.gate ≡ p.gate) × (q.past ≡ p.past) × (q.seen ≡ p.seen)
+
+-- a pass is split: the number of the new one is none that the pass knew to be given out, and afterwards both know that it is
+abbrev pub IsNewCaller : Known → Known → Known → Type 0
+IsNewCaller before after new = (before.callers ≤ new.caller) × (new.callers ≡ new.caller + 1) × (after.callers ≡ new.caller + 1)
 
 -- a frame of nothing
 abbrev pub no_frame : Frame

@@ -18,7 +18,7 @@ Lone {B} P xs = (b : B) × (xs ≡ Some b ∷ []) × P b
 module _ {B : Type 0} where
   -- what the pass with this seat knows
   abbrev pub known_of : Seat (Option B) View → Known
-  known_of s = record { gate = record { table = s.table_id; frame = s.me.0.frame }; caller = s.me.0.caller; past = s.me.0.past; seen = s.me.0.seen }
+  known_of s = record { gate = record { table = s.table_id; frame = s.me.0.frame }; caller = s.me.0.caller; callers = s.me.0.callers; past = s.me.0.past; seen = s.me.0.seen }
 
   -- it is of this table, which has the words of a turnstile
   abbrev pub IsOf : TableId → Seat (Option B) View → Type 0
@@ -28,9 +28,9 @@ module _ {B : Type 0} where
   abbrev pub IsIdle : Seat (Option B) View → Type 0
   IsIdle s = (s.me.0.stage ≡ Idle) × (s.me.1 ≡ [])
 
-  -- a seat in the same table, of the same caller and frame
+  -- a seat in the same table, of the same caller and frame, which forgets no number that was given out
   abbrev pub IsSameSeat : Seat (Option B) View → Seat (Option B) View → Type 0
-  IsSameSeat s t = (t.table_id ≡ s.table_id) × (t.me.0.caller ≡ s.me.0.caller) × (t.me.0.frame ≡ s.me.0.frame)
+  IsSameSeat s t = (t.table_id ≡ s.table_id) × (t.me.0.caller ≡ s.me.0.caller) × (t.me.0.frame ≡ s.me.0.frame) × (s.me.0.callers ≤ t.me.0.callers)
 
   -- the state is back in its slot, and the journal that the pass has seen is its journal, but for one entry where it grew
   pub record IsBack (lines : B → List Line) (frame : B → Frame) (s : Seat (Option B) View) (ticket : ℕ) (grown : Bool) : Type 0 where

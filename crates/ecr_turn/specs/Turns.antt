@@ -148,7 +148,7 @@ pub record TicketsRise (n : Numbers) (passes : List View) (journal : List Line) 
   pub rises : Rises 0 journal (suc n.serving)
   pub recorded : Each (λ l. (l.ticket < n.serving) ⊎ ((l.ticket ≡ n.serving) × SomeOne (λ v. (has_recorded v.stage ≡ true) × HasTicket n.serving v) passes)) journal
 
--- 4: callers' numbers, and those of callers to come, all differ; no entry has the number of a caller to come; and a pass has seen all entries of its own number
+-- 4: callers' numbers, and those of callers to come, all differ; no entry has the number of a caller to come; and a pass has seen all entries of its own number, and knows of no more callers than there are
 pub record CallersDiffer (n : Numbers) (passes : List View) (journal : List Line) : Type 0 where
   pub once : (m : ℕ) → One (HasNumber m) passes
   pub given : Every (λ v. (m : ℕ) → HasNumber m v → m < n.callers) passes
@@ -156,6 +156,7 @@ pub record CallersDiffer (n : Numbers) (passes : List View) (journal : List Line
   pub entries : Each (λ l. l.caller < n.callers) journal
   pub to_come : Every (λ v. (m : ℕ) → named_of v.stage ≡ Some m → Each (λ l. l.caller ≢ m) journal) passes
   pub own : Every (λ v. is_live v.stage ≡ true → IsLonger (λ l. l.caller ≢ v.caller) v.seen journal) passes
+  pub aware : Every (λ v. v.callers ≤ n.callers) passes
 
 -- 5: a state at home has the whole journal and the frame, and it is away only while a pass is in its turn
 pub record StateIsKept {B : Type 0} (lines : B → List Line) (frame : B → Frame) (fixed : Frame) (home : maybe.Option (Option B)) (passes : List View) (journal : List Line) : Type 0 where

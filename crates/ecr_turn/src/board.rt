@@ -33,6 +33,8 @@ pub struct View {
     pub stage: Stage,
     /// The number of its caller.
     pub caller: u64,
+    /// How many callers' numbers are given out, as far as it knows.
+    pub callers: u64,
     /// One more than the last ticket that it passed on.
     pub past: u64,
     /// The journal that it has seen.

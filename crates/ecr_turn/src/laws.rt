@@ -1,7 +1,7 @@
 // The laws of turns and of journals. The functions do nothing: their contracts are the laws.
 ghost use Rattle.std.specs.Prelude.{Box};
 ghost use Rattle.std.proofs.Common.{Global};
-ghost use Rattle.ecr_turn.specs.Laws.{TheRuleIsTheSevenPoints, WhatStoodStays, OthersAddNoneOfMine, ATurnAddsItsOwn};
+ghost use Rattle.ecr_turn.specs.Laws.{TheRuleIsTheSevenPoints, WhatStoodStays, OthersAddNoneOfMine, ATurnAddsItsOwn, SplitsRise};
 
 use crate::journal::Journal;
 
@@ -23,4 +23,9 @@ pub fn others_add_none_of_mine()
 /// A turn adds nothing to its caller's own lines, or its one entry at their end.
 pub fn a_turn_adds_its_own()
     ensures { ATurnAddsItsOwn }
+{}
+
+/// Passes that are split one after another from one pass have rising numbers, so that no two are the same.
+pub fn splits_rise()
+    ensures { SplitsRise }
 {}

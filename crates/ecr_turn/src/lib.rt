@@ -19,6 +19,7 @@ mod turnstile;
 pub use board::{Stage, View};
 pub use journal::Journal;
 pub use laws::{
-    a_turn_adds_its_own, others_add_none_of_mine, the_rule_is_the_seven_points, what_stood_stays,
+    a_turn_adds_its_own, others_add_none_of_mine, splits_rise, the_rule_is_the_seven_points,
+    what_stood_stays,
 };
 pub use turnstile::{Pass, Turn, Turnstile};

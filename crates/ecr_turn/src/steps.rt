@@ -126,6 +126,7 @@ fn name<S: Journal, R: Wait>(board: &Board<S>, rt: &R, seat: &mut Place<S>) -> u
     requires idle { seat.old.me.0.stage ≡ Idle }
     ensures pass { (seat.new.table_id ≡ seat.old.table_id) × (seat.new.me ≡ (naming result seat.old.me.0, seat.old.me.1)) }
     ensures new { (result ≢ seat.old.me.0.caller) × Each (λ l. l.caller ≢ result) seat.old.me.0.seen }
+    ensures unused { seat.old.me.0.callers ≤ result }
 {
     for _ in rt.forever() {
         let next = board.shared.peek(3);
@@ -149,9 +150,10 @@ pub(crate) fn fork<S: Journal, R: Wait>(
 ) -> (u64, Place<S>)
     requires of { IsOf board.now.shared.table_id seat.old }
     requires idle { IsIdle seat.old }
-    ensures kept { (known_of seat.new ≡ known_of seat.old) × IsIdle seat.new }
-    ensures given { (known_of result.1 ≡ record (known_of seat.old) { caller = result.0 }) × IsIdle result.1 }
+    ensures kept { (known_of seat.new ≡ record (known_of seat.old) { callers = result.0 + 1 }) × IsIdle seat.new }
+    ensures given { (known_of result.1 ≡ record (known_of seat.old) { caller = result.0; callers = result.0 + 1 }) × IsIdle result.1 }
     ensures new { (result.0 ≢ seat.old.me.0.caller) × Each (λ l. l.caller ≢ result.0) seat.old.me.0.seen }
+    ensures unused { seat.old.me.0.callers ≤ result.0 }
 {
     let caller = name(board, rt, seat);
     let other = board.shared.split_seat::<Fork>(seat);
@@ -163,6 +165,7 @@ pub(crate) fn absorb<S: Journal>(board: &Board<S>, seat: &mut Place<S>, other: P
     requires one { IsOf board.now.shared.table_id seat.old × IsIdle seat.old }
     requires two { IsOf board.now.shared.table_id other × IsIdle other }
     ensures pass { IsSameSeat seat.old seat.new × IsIdle seat.new }
+    ensures callers { seat.new.me.0.callers ≡ max seat.old.me.0.callers other.me.0.callers }
     ensures past { seat.new.me.0.past ≡ max seat.old.me.0.past other.me.0.past }
     ensures seen { seat.new.me.0.seen ≡ longer_of seat.old.me.0.seen other.me.0.seen }
     ensures ordered { IsBeginning seat.old.me.0.seen other.me.0.seen ⊎ IsBeginning other.me.0.seen seat.old.me.0.seen }

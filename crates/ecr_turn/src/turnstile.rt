@@ -1,9 +1,9 @@
 // Entering, and leaving.
-ghost use Rattle.std.specs.Prelude.{◌≡◌, ◌≤◌, ◌+◌, ◌≢◌, ◌⊎◌, max, [], ◌∷◌, IfOk, IfErr, length, None};
+ghost use Rattle.std.specs.Prelude.{◌≡◌, ◌<◌, ◌≤◌, ◌+◌, ◌≢◌, ◌⊎◌, max, [], ◌∷◌, IfOk, IfErr, length, None};
 ghost use Rattle.ecr_turn.specs.declared.board.Stage.TheVariants.{Holds};
 ghost use Rattle.ecr_model.specs.Growth.{Each, Grows, Follows, Rises};
 ghost use Rattle.ecr_turn.specs.Journals.{MayFollow, IsBeginning, longer_of};
-ghost use Rattle.ecr_turn.specs.Passes.{first_pass, IsSamePass, IsAsWise};
+ghost use Rattle.ecr_turn.specs.Passes.{first_pass, IsSamePass, IsAsWise, IsNewCaller};
 ghost use Rattle.ecr_turn.specs.Seats.{known_of};
 
 use crate::board::{Board, Place};
@@ -33,8 +33,9 @@ impl<S: Journal> Model for Turnstile<S> {
     ghost invariant = { λ t. t.board.shared.table_id.words ≡ 4 };
 }
 
-/// The right to enter one turnstile. Contracts see what its holder knows: the turnstile, the number of its caller, one
-/// more than the last ticket that it knows to be passed on, and the journal that it has seen.
+/// The right to enter one turnstile. Contracts see what its holder knows: the turnstile, the number of its caller, how
+/// many callers' numbers are given out, one more than the last ticket that it knows to be passed on, and the journal
+/// that it has seen.
 #[derive(Drop)]
 pub struct Pass<S: Journal> {
     seat: Place<S>,
@@ -42,7 +43,7 @@ pub struct Pass<S: Journal> {
 }
 
 impl<S: Journal> Model for Pass<S> {
-    ghost use Rattle.std.specs.Prelude.{◌≡◌};
+    ghost use Rattle.std.specs.Prelude.{◌≡◌, ◌<◌};
     ghost use Rattle.ecr_turn.specs.Passes.{Known};
 
     ghost Value = { Known };
@@ -51,7 +52,7 @@ impl<S: Journal> Model for Pass<S> {
 
     ghost view = { λ p. known_of p.seat };
 
-    ghost invariant = { λ p. IsIdle p.seat × (p.caller ≡ p.seat.me.0.caller) };
+    ghost invariant = { λ p. IsIdle p.seat × (p.caller ≡ p.seat.me.0.caller) × (p.caller < p.seat.me.0.callers) };
 }
 
 // What a turn keeps beside the state.
@@ -62,6 +63,7 @@ struct Held<'a, S: Journal> {
     caller: u64,
     count: u64,
     ghost numbered: { caller ≡ seat.me.0.caller },
+    ghost known: { caller < seat.me.0.callers },
     ghost of: { (seat.table_id ≡ board.now.shared.table_id) × (board.now.shared.table_id.words ≡ 4) },
     ghost holds: { seat.me.0.stage ≡ Holds ticket },
     ghost hand: { seat.me.1 ≡ (0, None) ∷ [] },
@@ -132,22 +134,25 @@ impl<S: Journal> Turnstile<S> {
     }
 
     /// A pass for another caller, who begins with what this one has seen. Its caller's number is neither this one's
-    /// nor that of an entry which this one has seen.
+    /// nor that of an entry which this one has seen, and it is above those of all that were split from this one before.
     pub fn split<R: Wait>(&self, rt: &R, pass: &mut Pass<S>) -> Result<Pass<S>, Mem>
         requires of { pass.old.gate ≡ self.now }
-        ensures kept { pass.new ≡ pass.old }
+        ensures kept { pass.new ≡ record pass.old { callers = pass.new.callers } }
+        ensures onward { pass.old.callers ≤ pass.new.callers }
         ensures given { IfOk result (λ p. IsAsWise pass.old p) }
         ensures new { IfOk result (λ p. (p.caller ≢ pass.old.caller) × Each (λ l. l.caller ≢ p.caller) pass.old.seen) }
+        ensures next { IfOk result (λ p. IsNewCaller pass.old pass.new p) }
     {
         let (caller, seat) = fork(&self.board, rt, &mut pass.seat);
         Ok(Pass { seat, caller })
     }
 
     /// Takes in what another pass has seen: the pass has then seen the longer of the two journals, and has the greater
-    /// `past`.
+    /// `past` and number of callers.
     pub fn join(&self, pass: &mut Pass<S>, other: Pass<S>)
         requires of { (pass.old.gate ≡ self.now) × (other.gate ≡ self.now) }
         ensures pass { IsSamePass pass.old pass.new × (pass.new.past ≡ max pass.old.past other.past) }
+        ensures callers { pass.new.callers ≡ max pass.old.callers other.callers }
         ensures seen { pass.new.seen ≡ longer_of pass.old.seen other.seen }
         ensures ordered { IsBeginning pass.old.seen other.seen ⊎ IsBeginning other.seen pass.old.seen }
         ensures grows { Grows pass.old.caller pass.old.past pass.old.seen pass.new.seen }
@@ -161,7 +166,8 @@ impl<S: Journal> Turnstile<S> {
 impl<S: Journal> Pass<S> {
     /// The number of its caller, by which the entries of its turns go.
     pub fn caller(&self) -> u64
-        ensures { result ≡ self.now.caller }
+        ensures caller { result ≡ self.now.caller }
+        ensures known { result < self.now.callers }
     {
         self.caller
     }

@@ -1,8 +1,8 @@
-use Rattle.std.proofs.Common.{rules, ◌⊎◌, ap, sym, subst, ◌∙◌}
+use Rattle.std.proofs.Common.{rules, ◌⊎◌, ◌≤◌, ap, sym, subst, ◌∙◌}
 use Rattle.ecr_model.specs.Growth.{Grows, Follows}
 use Rattle.ecr_turn.specs.Journals.{IsBeginning, longer_of}
 use Rattle.ecr_turn.specs.Steps.{merged}
-use Rattle.ecr_turn.proofs.Journals.{ordered}
+use Rattle.ecr_turn.proofs.Journals.{max_left, ordered}
 use Rattle.ecr_turn.proofs.Moves.{may_join, may_take_in}
 use Rattle.ecr_turn.proofs.steps.absorb.Goals as goal
 
@@ -14,7 +14,10 @@ load-requires g c = (search rules, search rules, may_take_in _ _ _ _ _ _ c.args.
 
 pub returns-clause-pass : goal.returns-clause-pass
 returns-clause-pass g c = let o = c.args.other.me.0 in let is = c.join_seat.ensures.2 in let told = c.load.ensures.2 o.past o.seen (ap (λ m. m.0.stage) is) in let now = told.0 ∙ ap (λ m. (merged m.0, m.1)) is in
-    ((c.load.ensures.0 ∙ c.join_seat.ensures.0, ap (λ m. m.0.caller) now, ap (λ m. m.0.frame) now), (ap (λ m. m.0.stage) now, ap (λ m. m.1) now ∙ c.requires.one.1.1))
+    ((c.load.ensures.0 ∙ c.join_seat.ensures.0, ap (λ m. m.0.caller) now, ap (λ m. m.0.frame) now, subst (λ n. c.args.seat.now.me.0.callers ≤ n) (sym (ap (λ m. m.0.callers) now)) (max_left c.args.seat.now.me.0.callers o.callers)), (ap (λ m. m.0.stage) now, ap (λ m. m.1) now ∙ c.requires.one.1.1))
+
+pub returns-clause-callers : goal.returns-clause-callers
+returns-clause-callers g c = let o = c.args.other.me.0 in let is = c.join_seat.ensures.2 in let told = c.load.ensures.2 o.past o.seen (ap (λ m. m.0.stage) is) in ap (λ m. m.0.callers) (told.0 ∙ ap (λ m. (merged m.0, m.1)) is)
 
 pub returns-clause-past : goal.returns-clause-past
 returns-clause-past g c = let o = c.args.other.me.0 in let is = c.join_seat.ensures.2 in let told = c.load.ensures.2 o.past o.seen (ap (λ m. m.0.stage) is) in ap (λ m. m.0.past) (told.0 ∙ ap (λ m. (merged m.0, m.1)) is)
