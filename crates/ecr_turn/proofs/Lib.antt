@@ -7,3 +7,4 @@ pub mod Moves
 pub mod Points
 pub mod JournalLaws
 pub mod RegisterLaws
+pub mod Sharing

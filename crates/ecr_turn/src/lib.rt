@@ -7,6 +7,7 @@
 
 mod board;
 mod change;
+mod crossing;
 mod journal;
 mod laws;
 mod plays;
@@ -17,6 +18,7 @@ mod tests;
 mod turnstile;
 
 pub use board::{Stage, View};
+pub use crossing::turns_cross_threads;
 pub use journal::Journal;
 pub use laws::{
     a_turn_adds_its_own, others_add_none_of_mine, splits_rise, the_rule_is_the_seven_points,
