@@ -3,3 +3,4 @@ pub mod Sink
 pub mod Faults
 pub mod Told
 pub mod Plan
+pub mod Clock

@@ -1,6 +1,8 @@
 // What the time is.
-ghost use Rattle.std.specs.Prelude.{◌≡◌, ◌≤◌, ◌∷◌, [], ℕ, List, Option, is_some, Some, ◌-◌, length, min, slice_index_or};
+ghost use Rattle.std.specs.Prelude.{◌≡◌, ◌≤◌, ◌∷◌, [], ℕ, List, Option, is_some, Some};
 ghost use Rattle.std.specs.Io.KnownBytes.{Appends};
+ghost use Rattle.ecr_outside.specs.Clock.{moment_at};
+ghost use Rattle.ecr_outside.specs.Plan.{next_call};
 
 use crate::told::Told;
 use ecr_model::{MAX_MOMENT, Moment};
@@ -20,54 +22,66 @@ pub trait Clock {
         ensures tells { is_some (told self.new) ≡ is_some (told self.old) };
 }
 
-/// A clock in memory. Contracts see the moments that it has given, which it tells.
+/// A clock in memory. Contracts see the moments that it has given, which it tells, those that it is to
+/// give, and the number of its next call.
 #[derive(Drop)]
 pub struct MemClock {
     moments: Vec<Moment>,
-    at: usize,
+    calls: u64,
     told: Told,
 }
 
 impl Model for MemClock {
-    ghost use Rattle.std.specs.Prelude.{List, ℕ};
+    ghost use Rattle.ecr_outside.specs.Clock.{Dial};
 
-    ghost Value = { List ℕ };
+    ghost Value = { Dial };
 
-    ghost view = { λ c. c.told };
+    ghost view = { λ c. record { told = c.told; moments = c.moments.items; calls = c.calls } };
 }
 
 impl MemClock {
     /// A clock that gives these moments in their order, and past the end the last one again. It
-    /// gives 0 where there is none, and [`MAX_MOMENT`] for a later one.
+    /// gives 0 where there is none, and [`MAX_MOMENT`] for a later one. Its calls count from 0.
     pub fn new(moments: Vec<Moment>) -> MemClock
-        ensures { result ≡ [] }
+        ensures told { result.told ≡ [] }
+        ensures moments { result.moments ≡ moments.items }
+        ensures calls { result.calls ≡ 0 }
     {
         MemClock {
             moments,
-            at: 0,
+            calls: 0,
             told: Told::none(),
         }
     }
 }
 
 impl Clock for MemClock {
-    ghost told = { Some };
+    ghost told = { λ c. Some c.told };
 
-    fn now(&mut self) -> Moment {
-        let moment = moment_at(&self.moments, self.at);
-        self.at = self.at.saturating_add(1);
+    fn now(&mut self) -> Moment
+        ensures at_most { result ≤ MAX_MOMENT }
+        ensures told { Appends (Some self.old.told) (Some self.new.told) (result ∷ []) }
+        ensures tells { is_some (Some self.new.told) ≡ is_some (Some self.old.told) }
+
+        // The moment is known before, by the call's number.
+        ensures moment { result ≡ moment_at self.old.moments self.old.calls }
+        ensures calls { self.new.calls ≡ next_call self.old.calls }
+        ensures moments { self.new.moments ≡ self.old.moments }
+    {
+        let moment = moment_at(&self.moments, self.calls);
+        self.calls = self.calls.saturating_add(1);
         self.told.add(moment);
         moment
     }
 }
 
-// The moment at this place, past the end the last one, 0 where there is none; cut to the range.
-fn moment_at(moments: &[Moment], at: usize) -> Moment
-    ensures { result ≡ min (slice_index_or moments.now (min at (length moments.now - 1)) 0) MAX_MOMENT }
+// The moment of the call of this number.
+fn moment_at(moments: &[Moment], call: u64) -> Moment
+    ensures { result ≡ moment_at moments.now call }
 {
     if moments.is_empty() {
         return 0;
     }
-    let at = at.min(moments.len() - 1);
+    let at = (call as usize).min(moments.len() - 1);
     moments[at].min(MAX_MOMENT)
 }

@@ -1,7 +1,6 @@
 // What the calls of a source or a sink in memory are to do.
-ghost use Rattle.std.specs.Prelude.{◌≡◌, ◌==◌, ◌+◌, ◌-◌, ◌^◌, min, None, Some, if◌then◌else◌};
-ghost use Rattle.std.specs.List.{list_any};
-ghost use Rattle.ecr_outside.specs.Plan.{most_at};
+ghost use Rattle.std.specs.Prelude.{◌≡◌, None, Some, if◌then◌else◌};
+ghost use Rattle.ecr_outside.specs.Plan.{most_at, is_failing, next_call};
 
 /// What each call is to do, by its number from 0. Past `u64::MAX` calls, all have that number.
 #[derive(Drop)]
@@ -28,8 +27,8 @@ impl Plan {
 
     /// What the next call is to do: `None` where it is to fail, else how many bytes it moves at most.
     pub fn next(&mut self) -> Option<usize>
-        ensures most { result ≡ (if list_any (λ n. n == self.old.calls) self.old.fails.items then None else Some (most_at self.old.sizes.items self.old.calls)) }
-        ensures calls { self.new.calls ≡ min (self.old.calls + 1) (2 ^ 64 - 1) }
+        ensures most { result ≡ (if is_failing self.old.fails.items self.old.calls then None else Some (most_at self.old.sizes.items self.old.calls)) }
+        ensures calls { self.new.calls ≡ next_call self.old.calls }
         ensures sizes { self.new.sizes ≡ self.old.sizes }
         ensures fails { self.new.fails ≡ self.old.fails }
     {
@@ -43,7 +42,7 @@ impl Plan {
 }
 
 fn is_among(numbers: &[u64], number: u64) -> bool
-    ensures { result ≡ list_any (λ n. n == number) numbers.now }
+    ensures { result ≡ is_failing numbers.now number }
 {
     numbers.iter().any(|n| *n == number)
 }

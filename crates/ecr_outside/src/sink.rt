@@ -1,6 +1,7 @@
 // Where bytes go.
-ghost use Rattle.std.specs.Prelude.{◌≡◌, ◌<◌, ◌≤◌, ℕ, List, Option, [], length, is_some, Some};
-ghost use Rattle.ecr_outside.specs.Sink.{HasCount, Takes, HasCause};
+ghost use Rattle.std.specs.Prelude.{◌≡◌, ◌<◌, ◌≤◌, ℕ, List, Option, [], length, is_some, Some, IsTrue};
+ghost use Rattle.ecr_outside.specs.Sink.{HasCount, Takes, HasCause, IsPlanned};
+ghost use Rattle.ecr_outside.specs.Plan.{is_failing, next_call};
 
 use crate::faults::Faults;
 use crate::plan::Plan;
@@ -38,7 +39,8 @@ pub trait Sink {
         ensures cause { HasCause (faults self.old) (faults self.new) result };
 }
 
-/// A sink in memory. Contracts see the bytes that it holds, which it tells, and its faults.
+/// A sink in memory. Contracts see the bytes that it holds, which it tells, its faults, and what its
+/// writes are to do.
 ///
 /// A write that finds no memory is one of them.
 #[derive(Drop)]
@@ -53,7 +55,13 @@ impl Model for MemSink {
 
     ghost Value = { Store };
 
-    ghost view = { λ s. record { held = s.bytes.items; faults = s.faults } };
+    ghost view = { λ s. record {
+      held = s.bytes.items;
+      faults = s.faults;
+      sizes = s.plan.sizes.items;
+      fails = s.plan.fails.items;
+      calls = s.plan.calls;
+    } };
 }
 
 impl MemSink {
@@ -64,6 +72,9 @@ impl MemSink {
     pub fn new(alloc: Global, sizes: Vec<usize>, fails: Vec<u64>) -> MemSink
         ensures held { result.held ≡ [] }
         ensures faults { result.faults ≡ 0 }
+        ensures sizes { result.sizes ≡ sizes.items }
+        ensures fails { result.fails ≡ fails.items }
+        ensures calls { result.calls ≡ 0 }
     {
         MemSink {
             bytes: Vec::new(alloc),
@@ -85,7 +96,21 @@ impl Sink for MemSink {
 
     ghost faults = { λ s. s.faults };
 
-    fn write(&mut self, piece: &[u8]) -> Took {
+    fn write(&mut self, piece: &[u8]) -> Took
+        requires { 0 < length piece.now }
+        ensures count { HasCount result piece.now }
+        ensures bytes { Takes (Some self.old.held) (Some self.new.held) piece.now result }
+        ensures tells { is_some (Some self.new.held) ≡ is_some (Some self.old.held) }
+        ensures later { self.old.faults ≤ self.new.faults }
+        ensures cause { HasCause self.old.faults self.new.faults result }
+
+        // What it does is known before, by its number, but for want of memory.
+        ensures planned { IsPlanned self.old piece.now result }
+        ensures failing { IsTrue (is_failing self.old.fails self.old.calls) → result ≡ Took.Failed }
+        ensures calls { self.new.calls ≡ next_call self.old.calls }
+        ensures sizes { self.new.sizes ≡ self.old.sizes }
+        ensures fails { self.new.fails ≡ self.old.fails }
+    {
         if let Some(most) = self.plan.next() {
             let n = most.min(piece.len());
             if self.bytes.extend_from_slice(&piece[..n]).is_ok() {

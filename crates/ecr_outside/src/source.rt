@@ -1,6 +1,7 @@
 // Where bytes come from.
 ghost use Rattle.std.specs.Prelude.{◌≡◌, ◌<◌, ◌≤◌, ℕ, List, Option, length, take, drop, min, is_some, Some};
-ghost use Rattle.ecr_outside.specs.Source.{HasCount, Gives, HasCause};
+ghost use Rattle.ecr_outside.specs.Source.{HasCount, Gives, HasCause, next_got};
+ghost use Rattle.ecr_outside.specs.Plan.{next_call};
 
 use crate::faults::Faults;
 use crate::plan::Plan;
@@ -40,7 +41,8 @@ pub trait Source {
         ensures cause { HasCause (faults self.old) (faults self.new) result };
 }
 
-/// A source in memory. Contracts see the bytes that are left, which it tells, and its faults.
+/// A source in memory. Contracts see the bytes that are left, which it tells, its faults, and what its
+/// reads are to do.
 #[derive(Drop)]
 pub struct MemSource {
     bytes: Vec<u8>,
@@ -55,7 +57,13 @@ impl Model for MemSource {
 
     ghost Value = { Stream };
 
-    ghost view = { λ s. record { left = drop s.at s.bytes.items; faults = s.faults } };
+    ghost view = { λ s. record {
+      left = drop s.at s.bytes.items;
+      faults = s.faults;
+      sizes = s.plan.sizes.items;
+      fails = s.plan.fails.items;
+      calls = s.plan.calls;
+    } };
 
     ghost invariant = { λ s. s.at ≤ length s.bytes.items };
 }
@@ -68,6 +76,9 @@ impl MemSource {
     pub fn new(bytes: Vec<u8>, sizes: Vec<usize>, fails: Vec<u64>) -> MemSource
         ensures left { result.left ≡ bytes.items }
         ensures faults { result.faults ≡ 0 }
+        ensures sizes { result.sizes ≡ sizes.items }
+        ensures fails { result.fails ≡ fails.items }
+        ensures calls { result.calls ≡ 0 }
     {
         MemSource {
             bytes,
@@ -83,7 +94,20 @@ impl Source for MemSource {
 
     ghost faults = { λ s. s.faults };
 
-    fn read(&mut self, buf: &mut [u8]) -> Got {
+    fn read(&mut self, buf: &mut [u8]) -> Got
+        requires { 0 < length buf.old }
+        ensures count { HasCount result buf.new }
+        ensures bytes { Gives (Some self.old.left) (Some self.new.left) buf.new result }
+        ensures tells { is_some (Some self.new.left) ≡ is_some (Some self.old.left) }
+        ensures later { self.old.faults ≤ self.new.faults }
+        ensures cause { HasCause self.old.faults self.new.faults result }
+
+        // What it does is known before, by its number.
+        ensures planned { result ≡ next_got self.old (length buf.old) }
+        ensures calls { self.new.calls ≡ next_call self.old.calls }
+        ensures sizes { self.new.sizes ≡ self.old.sizes }
+        ensures fails { self.new.fails ≡ self.old.fails }
+    {
         let Some(most) = self.plan.next() else {
             self.faults.rise();
             return Got::Failed;
