@@ -23,7 +23,7 @@ use Rattle.ecr_http.specs.Leads.{IsReady, IsRead, Leads}
 use Rattle.ecr_http.specs.Sends.{Sends}
 use Rattle.ecr_http.specs.declared.lead.Lead.TheVariants as leads
 use Rattle.ecr_http.specs.declared.write.Sent.TheVariants.{WriteFault}
-use Rattle.ecr_http.specs.Reading.{MayTell, Gives, Nexts}
+use Rattle.ecr_http.specs.Reading.{MayTell, Gives, bytes_read, IsUnspent, Nexts}
 use Rattle.ecr_http.specs.Takings.{IsStop}
 use Rattle.ecr_http.specs.declared.body.Taken.TheVariants as takens
 use Rattle.ecr_http.specs.declared.events.Event.{Event}
@@ -144,7 +144,7 @@ Gives-fronts p at bytes now left held told due (events.TooLong place limit) s to
 )
 Gives-fronts p at bytes now left held told due events.ReadFault s total spent says may f = (
   due,
-  lacks_by false p at bytes (short due open_) (record { due = due; ending = more }) s f refl,
+  lacks_by false p at bytes (short due open_) (record { due = due; ending = more }) s f.0 refl,
   says,
 )
 Gives-fronts p at bytes now left held told due events.WriteFault s total spent says may f = absurd f
@@ -157,6 +157,19 @@ Gives-fronts p at bytes now left held told due events.Spent s total spent says m
   omega (arith, f.1),
 )
 Gives-fronts p at bytes now left held told due events.Mem s total spent says may f = (interim due, may, says)
+
+-- a read that gave nothing was made where more may be read
+pub IsUnspent-fronts : (at : ℕ) (bytes : List ℕ) (now : Intake) (left : Option (List ℕ)) (due : Bool) (size : ℕ) (event : Event)
+    → now.total ≡ size → Fronts at bytes now left due event → IsUnspent size event
+IsUnspent-fronts at bytes now left due size (events.Request r) total f = tt
+IsUnspent-fronts at bytes now left due size events.End total f = omega (arith, f.3)
+IsUnspent-fronts at bytes now left due size (events.Truncated place) total f = omega (arith, f.4)
+IsUnspent-fronts at bytes now left due size (events.Bad place) total f = tt
+IsUnspent-fronts at bytes now left due size (events.TooLong place limit) total f = tt
+IsUnspent-fronts at bytes now left due size events.ReadFault total f = omega (arith, f.1)
+IsUnspent-fronts at bytes now left due size events.WriteFault total f = tt
+IsUnspent-fronts at bytes now left due size events.Spent total f = tt
+IsUnspent-fronts at bytes now left due size events.Mem total f = tt
 
 -- ---- a call of the reader
 
@@ -173,21 +186,30 @@ total_read before old mid now r =
     let blank = r.blank in
     omega (arith, length-drop r.skipped (old.buffer ++ r.got), blank_length-le (old.buffer ++ r.got))
 
+-- the bytes read are counted behind a head too
+total_behind : (before : Option (List ℕ)) (old : Intake) (mid : Option (List ℕ)) (lead : Intake) (after : Option (List ℕ)) (now : Intake) (due : Bool) (event : Event)
+    (r : IsRead before old mid lead) (b : Behind mid lead after now due event) → now.total ≡ bytes_read (grown (point_of old false) (r.got ++ b.got))
+total_behind before old mid lead after now due event r b =
+    let first = total_read before old mid lead r in
+    let counted = b.counted in
+    omega (arith, length-append old.buffer r.got, length-append old.buffer (r.got ++ b.got), length-append r.got b.got)
+
 pub Nexts-behind : (before held : Option (List ℕ)) (old : Intake) (mid : Option (List ℕ)) (lead : Intake) (after told : Option (List ℕ)) (now : Intake) (due : Bool) (event : Event)
     → (r : IsRead before old mid lead) → (b : Behind mid lead after now due event)
     → blank_length (lead.buffer ++ b.got) ≡ 0 → Appends held told (interim due)
     → MayTell (grown (point_of old false) (r.got ++ b.got)) (interim due)
     → Nexts before held (point_of old false) after told (point_of now (closes_after event)) event
-Nexts-behind before held old mid lead after told now due event r b none says may = record {
-  got = r.got ++ b.got;
-  consumed = Consumes-trans before mid after r.got b.got r.consumed b.consumed;
-  gives = Gives-fronts (grown (point_of old false) (r.got ++ b.got)) lead.at (lead.buffer ++ b.got) now after held told due event
-      (Settled-read before old mid lead b.got r none)
-      (let first = total_read before old mid lead r in
-      let counted = b.counted in
-      omega (arith, length-append old.buffer r.got, length-append old.buffer (r.got ++ b.got), length-append r.got b.got))
-      b.spent says may b.fronts;
-}
+Nexts-behind before held old mid lead after told now due event r b none says may =
+    let p = grown (point_of old false) (r.got ++ b.got) in
+    let total : now.total ≡ bytes_read p = total_behind before old mid lead after now due event r b in
+    record {
+      got = r.got ++ b.got;
+      consumed = Consumes-trans before mid after r.got b.got r.consumed b.consumed;
+      gives = Gives-fronts p lead.at (lead.buffer ++ b.got) now after held told due event
+          (Settled-read before old mid lead b.got r none) total b.spent says may b.fronts;
+      within = subst (λ (n : ℕ). n ≤ max_read) total b.spent;
+      unspent = IsUnspent-fronts lead.at (lead.buffer ++ b.got) now after due (bytes_read p) event total b.fronts;
+    }
 
 -- nothing more came
 abbrev pub Behind-now : (left : Option (List ℕ)) (lead now : Intake) (due : Bool) (event : Event) → now.total ≡ lead.total → lead.total ≤ max_read
@@ -277,6 +299,11 @@ Nexts-untold before held told old left now count head l waiting sends =
       got = l.read.got ++ [];
       consumed = Consumes-trans before left left l.read.got [] l.read.consumed (Consumes-nil left);
       gives = (awaits, subst (λ (due : Bool). Sends held told (interim due) WriteFault) waiting sends);
+      within =
+          let total = total_read before old left now l.read in
+          let spent = l.read.ready.spent in
+          omega (arith, length-append old.buffer l.read.got, length-append old.buffer (l.read.got ++ []), length-append l.read.got []);
+      unspent = tt;
     }
 
 -- the request behind a head was read, or what stands in its place
@@ -408,9 +435,9 @@ stopped_fronts : (at : ℕ) (lead : Intake) (after : Option (List ℕ)) (now : I
 stopped_fronts at lead after now count head framing limit got stops.Ended h same partial is =
     let within : count ≤ length lead.buffer = h.ends.within in
     let some : 0 < count = IsEnd-positive max_head lead.buffer count h.ends in
-    (same, front_of_body lead count head framing limit got (lacks open_) h partial, omega (arith, length-append lead.buffer got), is)
+    (same, front_of_body lead count head framing limit got (lacks open_) h partial, omega (arith, length-append lead.buffer got), is.0, is.1)
 stopped_fronts at lead after now count head framing limit got stops.Failed h same partial is =
-    front_of_body lead count head framing limit got (lacks open_) h partial
+    (front_of_body lead count head framing limit got (lacks open_) h partial, is)
 stopped_fronts at lead after now count head framing limit got stops.Spent h same partial is =
     (front_of_body lead count head framing limit got (lacks open_) h partial, is)
 stopped_fronts at lead after now count head framing limit got stops.Mem h same partial is = tt

@@ -32,12 +32,12 @@ abbrev pub Fronts : ℕ → List ℕ → Intake → Option (List ℕ) → Bool �
 Fronts at bytes now left due (events.Request request) =
     (count : ℕ) × IsFront at bytes (whole request count) × (now.at ≡ at + count) × (now.buffer ≡ drop count bytes) × IsReady now
     × (is_waiting request ≡ due)
-Fronts at bytes now left due events.End = (bytes ≡ []) × (due ≡ false) × IsAtEnd left
+Fronts at bytes now left due events.End = (bytes ≡ []) × (due ≡ false) × IsAtEnd left × (now.total < max_read)
 Fronts at bytes now left due (events.Truncated place) =
-    (place ≡ at) × IsFront at bytes (short due open_) × (0 < length bytes) × IsAtEnd left
+    (place ≡ at) × IsFront at bytes (short due open_) × (0 < length bytes) × IsAtEnd left × (now.total < max_read)
 Fronts at bytes now left due (events.Bad place) = (place ≡ at) × IsFront at bytes (short due bad)
 Fronts at bytes now left due (events.TooLong place limit) = (place ≡ at) × IsFront at bytes (short due (too_long limit))
-Fronts at bytes now left due events.ReadFault = IsFront at bytes (short due open_)
+Fronts at bytes now left due events.ReadFault = IsFront at bytes (short due open_) × (now.total < max_read)
 Fronts at bytes now left due events.WriteFault = ⊥
 Fronts at bytes now left due events.Spent = IsFront at bytes (short due open_) × (max_read ≤ now.total)
 Fronts at bytes now left due events.Mem = ⊤

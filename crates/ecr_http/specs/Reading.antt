@@ -1,6 +1,6 @@
 -- What one call of a reader takes from the source, tells the client and gives. A reader is seen as a point of the stream
 -- of all bytes of its source; where it is closed, it isn't used again.
-use Rattle.std.specs.Prelude.{◌≡◌, ℕ, ◌+◌, ◌⊎◌, Bool, true, false, List, [], length, Option}
+use Rattle.std.specs.Prelude.{◌≡◌, ℕ, ◌+◌, ◌<◌, ◌≤◌, ◌⊎◌, Bool, true, false, List, [], length, Option, ⊤}
 use Rattle.std.specs.Io.KnownBytes.{Consumes, Appends, IsAtEnd}
 use Rattle.ecr_model.specs.Replies.{continue_reply, interim}
 use Rattle.ecr_model.specs.Sessions.{max_read, is_waiting}
@@ -31,8 +31,26 @@ Gives p q left held now events.WriteFault = AwaitsBody p × Sends held now conti
 Gives p q left held now events.Spent = Shows false p held now more × (p.at + length p.ahead ≡ max_read)
 Gives p q left held now events.Mem = (further : List ℕ) × MayTell p further × Appends held now further
 
+-- how many bytes were read up to that point: those that were used, and those that come
+abbrev pub bytes_read : Point → ℕ
+bytes_read p = p.at + length p.ahead
+
+-- where the last read gave no bytes, it was made with fewer bytes read than may be
+abbrev pub IsUnspent : ℕ → Event → Type 0
+IsUnspent size (events.Request request) = ⊤
+IsUnspent size events.End = size < max_read
+IsUnspent size (events.Truncated at) = size < max_read
+IsUnspent size (events.Bad at) = ⊤
+IsUnspent size (events.TooLong at limit) = ⊤
+IsUnspent size events.ReadFault = size < max_read
+IsUnspent size events.WriteFault = ⊤
+IsUnspent size events.Spent = ⊤
+IsUnspent size events.Mem = ⊤
+
 -- what a call of a reader did: `got` was taken from the source
 pub record Nexts (before held : Option (List ℕ)) (p : Point) (after now : Option (List ℕ)) (q : Point) (event : Event) : Type 0 where
   pub got : List ℕ
   pub consumed : Consumes before after got
   pub gives : Gives (grown p got) q after held now event
+  pub within : bytes_read (grown p got) ≤ max_read
+  pub unspent : IsUnspent (bytes_read (grown p got)) event

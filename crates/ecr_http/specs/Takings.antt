@@ -10,10 +10,11 @@ use Rattle.ecr_http.specs.declared.intake.Stop.TheVariants as stops
 abbrev pub lengthened : Intake → List ℕ → Intake
 lengthened intake piece = record intake { buffer = intake.buffer ++ piece; total = intake.total + length piece }
 
--- why no more bytes come: what the source has left, and how many bytes were read
+-- why no more bytes come: what the source has left, and how many bytes were read; a source is asked only where more
+-- may be read
 abbrev pub IsStop : Stop → Option (List ℕ) → ℕ → Type 0
-IsStop stops.Ended left total = IsAtEnd left
-IsStop stops.Failed left total = ⊤
+IsStop stops.Ended left total = IsAtEnd left × (total < max_read)
+IsStop stops.Failed left total = total < max_read
 IsStop stops.Spent left total = max_read ≤ total
 IsStop stops.Mem left total = ⊤
 
