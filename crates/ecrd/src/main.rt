@@ -43,4 +43,6 @@ mod action_tests;
 #[cfg(test)]
 mod http_tests;
 #[cfg(test)]
+mod session_tests;
+#[cfg(test)]
 mod trial;

@@ -1,0 +1,191 @@
+// Whole sessions beyond one input to a fresh registry: one after another on a desk, and with a client that waits.
+ghost use Rattle.std.specs.Prelude.{◌≡◌, ◌<◌, length, None, Some};
+ghost use Rattle.ecr_cells.specs.Desks.{seen_of};
+
+use crate::trial::{
+    BODY, CONTINUE, CREATE, FIELDS, LENGTH, MADE_BODY, MADE_HEAD, POST, Parts, THERE, WORDS, check,
+    joined, words,
+};
+use ecr_cells::SoloDesk;
+use ecr_model::{End, Limits, SharedText, SiteId};
+use ecr_outside::{Got, MemClock, MemSink, MemSource, Sink, Source, Took};
+use ecr_serve::solo;
+use ecr_session::{Mode, session_still};
+use std::alloc::{AllocError, Global};
+use std::cell::Cell;
+use std::process::Abort;
+use std::test::Fail;
+
+#[test]
+fn an_absent_repository_has_no_mutability(rt: HostRuntime) -> Result<(), Fail> {
+    let case: (Parts, Parts, End) = (
+        &[(
+            "POST / HTTP/1.1\r\nHost: localhost\r\nContent-Length: 62\r\nX-Amz-Target: AmazonEC2ContainerRegistry_V20150921.PutImageTagMutability\r\n\r\n{\"repositoryName\":\"team/app\",\"imageTagMutability\":\"IMMUTABLE\"}",
+            2,
+        )],
+        &[(
+            "HTTP/1.1 400 Bad Request\r\nContent-Length: 73\r\nContent-Type: application/x-amz-json-1.1\r\n\r\n{\"__type\":\"RepositoryNotFoundException\",\"message\":\"repository not found\"}",
+            2,
+        )],
+        End::Whole,
+    );
+    check(&rt, rt.alloc(), 0, &case)?;
+    Ok(())
+}
+
+// A session at that desk gives that output.
+fn serve(
+    rt: &impl Abort,
+    alloc: Global,
+    desk: &mut SoloDesk,
+    input: &str,
+    output: Parts,
+) -> Result<(), AllocError>
+    requires { 0 < length (seen_of desk.old).realm.served }
+    ensures { (seen_of desk.new).realm ≡ (seen_of desk.old).realm }
+{
+    let bytes = Vec::from_slice(alloc, input.as_bytes())?;
+    let output = joined(alloc, output)?;
+    let mut source = MemSource::new(bytes, Vec::new(alloc), Vec::new(alloc));
+    let mut sink = MemSink::new(alloc, Vec::new(alloc), Vec::new(alloc));
+    let mut clock = MemClock::new(Vec::new(alloc));
+    let mode = Mode {
+        control: false,
+        fixed: Some(1_700_000_000),
+    };
+    let ended = session_still(alloc, desk, mode, &mut source, &mut sink, &mut clock);
+    assert!(rt; sink.held() == output.as_slice());
+    assert!(rt; ended.end == End::Whole);
+    Ok(())
+}
+
+#[test]
+fn a_session_finds_what_the_one_before_it_left(rt: HostRuntime) -> Result<(), Fail> {
+    let alloc = rt.alloc();
+    let site = SiteId {
+        region: SharedText::copy_of(alloc, b"us-east-1")?,
+        account: SharedText::copy_of(alloc, b"111122223333")?,
+    };
+    let mut desk = SoloDesk::new(alloc, vec![in alloc; site]?, Limits::standard())?;
+    serve(
+        &rt,
+        alloc,
+        &mut desk,
+        CREATE,
+        &[(MADE_HEAD, 1), (MADE_BODY, 1)],
+    )?;
+    serve(&rt, alloc, &mut desk, CREATE, &[(THERE, 1)])?;
+    Ok(())
+}
+
+// A client that sends its next piece once so many bytes were written, and else ends.
+#[derive(Drop)]
+struct Client<'a> {
+    pieces: MemSource,
+    needs: &'a [usize],
+    at: usize,
+    written: &'a Cell<usize>,
+}
+
+impl Source for Client<'_> {
+    ghost left = { λ _. None };
+
+    ghost faults = { λ c. c.pieces.faults };
+
+    fn read(&mut self, buf: &mut [u8]) -> Got {
+        if self.at < self.needs.len() && self.written.get() < self.needs[self.at] {
+            return Got::End;
+        }
+        self.at = self.at.saturating_add(1);
+        self.pieces.read(buf)
+    }
+}
+
+// A sink that says how many bytes it holds.
+#[derive(Drop)]
+struct Counted<'a> {
+    sink: MemSink,
+    written: &'a Cell<usize>,
+}
+
+impl Sink for Counted<'_> {
+    ghost held = { λ c. Some c.sink.held };
+
+    ghost faults = { λ c. c.sink.faults };
+
+    fn write(&mut self, piece: &[u8]) -> Took {
+        let took = self.sink.write(piece);
+        self.written.set(self.sink.held().len());
+        took
+    }
+}
+
+// A client that waits for the 100 before it sends a body, and for the reply before it asks again, so many bytes each,
+// is given that output.
+fn check_waits(
+    rt: &impl Abort,
+    alloc: Global,
+    needs: &[usize],
+    output: Parts,
+    end: End,
+) -> Result<(), AllocError> {
+    let head = joined(
+        alloc,
+        &[
+            (POST, 1),
+            (FIELDS, 1),
+            ("Expect: 100-continue\r\n", 1),
+            (LENGTH, 1),
+        ],
+    )?;
+    let sizes = vec![in alloc; head.len(), BODY.len(), CREATE.len()]?;
+    let mut input = head;
+    input.extend_from_slice(BODY.as_bytes())?;
+    input.extend_from_slice(CREATE.as_bytes())?;
+    let written = Cell::new(0);
+    let mut client = Client {
+        pieces: MemSource::new(input, sizes, Vec::new(alloc)),
+        needs,
+        at: 0,
+        written: &written,
+    };
+    let mut sink = Counted {
+        sink: MemSink::new(alloc, Vec::new(alloc), Vec::new(alloc)),
+        written: &written,
+    };
+    let mut clock = MemClock::new(Vec::new(alloc));
+    let words = words(alloc, &WORDS)?;
+    let ended = solo(alloc, &words, &mut client, &mut sink, &mut clock);
+    let output = joined(alloc, output)?;
+    assert!(rt; sink.sink.held() == output.as_slice());
+    assert!(rt; ended.end == end);
+    Ok(())
+}
+
+#[test]
+fn each_answer_is_written_before_more_is_read(rt: HostRuntime) -> Result<(), Fail> {
+    let told = CONTINUE.len();
+    let replied = told + MADE_HEAD.len() + MADE_BODY.len();
+    let cases: [([usize; 3], Parts, End); 3] = [
+        (
+            [0, told, replied],
+            &[(CONTINUE, 1), (MADE_HEAD, 1), (MADE_BODY, 1), (THERE, 1)],
+            End::Whole,
+        ),
+        // A client that waits for one byte more than is written ends where it waits.
+        (
+            [0, told + 1, replied],
+            &[(CONTINUE, 1)],
+            End::Truncated { at: 0 },
+        ),
+        (
+            [0, told, replied + 1],
+            &[(CONTINUE, 1), (MADE_HEAD, 1), (MADE_BODY, 1)],
+            End::Whole,
+        ),
+    ];
+    for (needs, output, end) in cases {
+        check_waits(&rt, rt.alloc(), &needs, output, end)?;
+    }
+    Ok(())
+}
