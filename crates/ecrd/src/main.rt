@@ -43,6 +43,8 @@ mod action_tests;
 #[cfg(test)]
 mod http_tests;
 #[cfg(test)]
+mod limit_tests;
+#[cfg(test)]
 mod session_tests;
 #[cfg(test)]
 mod trial;
