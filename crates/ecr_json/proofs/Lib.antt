@@ -1,1 +1,3 @@
 mod BlobLemmas
+mod ReadingLemmas
+mod PassingLemmas

@@ -1,3 +1,5 @@
 pub mod Fields
 pub mod Blobs
 pub mod Objects
+pub mod Thin
+pub mod Passing

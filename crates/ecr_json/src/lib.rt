@@ -10,6 +10,8 @@ mod builder;
 mod examples;
 mod field;
 mod members;
+mod number;
+mod skip;
 
 pub use blob::decode_blob;
 pub use builder::Builder;
