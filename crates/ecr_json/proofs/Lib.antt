@@ -1,3 +1,5 @@
 mod BlobLemmas
 mod ReadingLemmas
 mod PassingLemmas
+mod ThinningLemmas
+mod MemberLemmas

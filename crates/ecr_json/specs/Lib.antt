@@ -3,3 +3,4 @@ pub mod Blobs
 pub mod Objects
 pub mod Thin
 pub mod Passing
+pub mod Thinning

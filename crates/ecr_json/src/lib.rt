@@ -12,9 +12,11 @@ mod field;
 mod members;
 mod number;
 mod skip;
+mod thin;
 
 pub use blob::decode_blob;
 pub use builder::Builder;
 pub use field::Field;
 pub use members::{list, object, text, truth, whole};
+pub use thin::read_thin;
 pub use std::alloc::AllocError as Mem;
