@@ -24,10 +24,11 @@ document-IsUtf8 body h = cond-true _ (read body) None (eq-eqb (utf8_valid_len bo
 -- ---- a page that isn't refused
 
 -- where no item passes a test, the first of them doesn't, and none of the others
-find-None : {X : Type 0} (p : X → Bool) (x : X) (xs : List X) → find p (x ∷ xs) ≡ None → (p x ≡ false) × (find p xs ≡ None)
+pub find-None : {X : Type 0} (p : X → Bool) (x : X) (xs : List X) → find p (x ∷ xs) ≡ None → (p x ≡ false) × (find p xs ≡ None)
 find-None p x xs e = grind arith
 
-option_map-None : {X Y : Type 0} (f : X → Y) (o : Option X) → option_map f o ≡ None → o ≡ None
+-- an option that is none under f is none
+pub option_map-None : {X Y : Type 0} (f : X → Y) (o : Option X) → option_map f o ≡ None → o ≡ None
 option_map-None f None e = refl
 option_map-None f (Some x) e = cc
 

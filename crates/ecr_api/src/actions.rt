@@ -1,7 +1,8 @@
 // The actions, and the members of their bodies (Amazon ECR API Reference, "Actions").
-ghost use Rattle.std.specs.Prelude.{◌≡◌};
+ghost use Rattle.std.specs.Prelude.{◌≡◌, map};
 ghost use Rattle.ecr_model.specs.Actions.{action_of, members_of};
 ghost use Rattle.ecr_model.specs.Refusals.{parameter_text};
+ghost use Rattle.ecr_api.specs.Named.{AreNamed};
 ghost use Rattle.ecr_api.specs.Readings.{AreMembers, IsMember};
 
 use ecr_model::{Action, Domain, Member, Parameter};
@@ -94,6 +95,21 @@ pub(crate) fn members_of(action: Action) -> &'static [Member]
         Action::DeleteRepository => &DELETION,
         Action::DescribeRepositories => &DESCRIPTION,
         Action::PutImageTagMutability => &CHANGE_OF_MUTABILITY,
+    }
+}
+
+/// The names of an action's members.
+#[tactic(auto, unfolding(ecr_model::specs::Actions::members_of, ecr_model::specs::Refusals::parameter_text))]
+pub(crate) fn member_names(action: Action) -> &'static [&'static str]
+    ensures { AreNamed (map (λ n. n.now) result.now) (members_of action) }
+{
+    match action {
+        Action::CreateRepository => &["registryId", "repositoryName", "imageTagMutability"],
+        Action::DeleteRepository => &["registryId", "repositoryName", "force"],
+        Action::DescribeRepositories => {
+            &["registryId", "repositoryNames", "maxResults", "nextToken"]
+        }
+        Action::PutImageTagMutability => &["registryId", "repositoryName", "imageTagMutability"],
     }
 }
 

@@ -17,5 +17,5 @@ mod tests;
 mod write;
 
 pub use asked::{ApiRefusal, Asked};
-pub use read::read_call;
+pub use read::{read_call, read_call_in};
 pub use write::{write_refused, write_reply};

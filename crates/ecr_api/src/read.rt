@@ -1,24 +1,26 @@
 // What a target and a body ask for (Amazon ECR API Reference, "Actions").
-ghost use Rattle.std.specs.Prelude.{◌≡◌, IfErr, IfOk, option_map};
-ghost use Rattle.serde_json.specs.Read.{read};
+ghost use Rattle.std.specs.Prelude.{◌≡◌, IfErr, IfOk, map, option_map};
 ghost use Rattle.serde_json.specs.View.{view};
+ghost use Rattle.ecr_json.specs.Thin.{IsThinOf};
 ghost use Rattle.ecr_model.specs.Actions.{body_reading, reading, typed_reading};
 ghost use Rattle.ecr_model.specs.Members.{document};
 ghost use Rattle.ecr_api.specs.Readings.{LoadFits, NamesNoPart, Reads};
 
-use crate::actions::{action_of, members_of};
+use crate::actions::{action_of, member_names, members_of};
 use crate::calls::asked_by;
 use crate::members::{are_typed, first_bad};
 use crate::{ApiRefusal, Asked};
+use ecr_json::read_thin;
 use ecr_model::{Action, Mem, Refusal, SiteId};
+use json::Scratch;
 use serde_json::Value;
 use std::alloc::Global;
 
 /// What a target and a body ask for, where the request came to `base` of the served sites.
 ///
 /// An unknown target is refused first, then a body that isn't JSON or has a member of a wrong type, at any level, then
-/// the first member that is bad. The body is read once; it takes memory for the JSON values, and for the texts of the
-/// call.
+/// the first member that is bad. The body is read once, and what isn't asked for in it takes no memory; it takes some
+/// for the members of the action, and for the texts of the call.
 #[tactic(auto, unfolding(ecr_model::specs::Actions::reading))]
 pub fn read_call(
     alloc: Global,
@@ -33,9 +35,31 @@ pub fn read_call(
     ensures fits { IfOk result LoadFits }
     ensures plain { IfErr result NamesNoPart }
 {
+    let mut scratch = Scratch::new(alloc);
+    read_call_in(alloc, &mut scratch, target, body, base, served)
+}
+
+/// What a target and a body ask for, as `read_call` has it, by a scratch that is kept from body to body.
+///
+/// The scratch grows to the longest body that it was used for.
+#[tactic(auto, unfolding(ecr_model::specs::Actions::reading))]
+pub fn read_call_in(
+    alloc: Global,
+    scratch: &mut Scratch,
+    target: &[u8],
+    body: &[u8],
+    base: &SiteId,
+    served: &[SiteId],
+) -> Result<Asked, ApiRefusal>
+    ensures exact { Reads result (reading target.now body.now base.now served.now) }
+
+    // So a desk can be asked for it, or its refusal written.
+    ensures fits { IfOk result LoadFits }
+    ensures plain { IfErr result NamesNoPart }
+{
     match action_of(target) {
         Some(action) => {
-            let document = read_document(alloc, body)?;
+            let document = read_document(alloc, scratch, member_names(action), body)?;
             read_body(alloc, base, served, action, &document)
         }
         None => Err(ApiRefusal::Refused(Refusal::UnknownOperation)),
@@ -83,24 +107,18 @@ fn read_value(
     }
 }
 
-/// The body's JSON reading; a body that isn't UTF-8 has none.
+/// The body's JSON reading, thinly by these names; a body that isn't UTF-8 has none.
 #[tactic(auto, unfolding(ecr_model::specs::Members::document))]
-fn read_document(alloc: Global, body: &[u8]) -> Result<Option<Value>, Mem>
-    ensures { IfOk result (λ o. option_map view o ≡ document body.now) }
+fn read_document(
+    alloc: Global,
+    scratch: &mut Scratch,
+    names: &[&str],
+    body: &[u8],
+) -> Result<Option<Value>, Mem>
+    ensures { IfOk result (λ o. IsThinOf (map (λ n. n.now) names.now) (option_map view o) (document body.now)) }
 {
     match str::from_utf8(body) {
-        Ok(text) => read_json(alloc, text),
-        Err(_) => Ok(None),
-    }
-}
-
-/// The JSON reading of the text, where it has one.
-fn read_json(alloc: Global, text: &str) -> Result<Option<Value>, Mem>
-    ensures { IfOk result (λ o. option_map view o ≡ read text.now) }
-{
-    match Value::from_str(alloc, text) {
-        Ok(value) => Ok(Some(value)),
-        Err(error) if error.is_memory() => Err(Mem),
+        Ok(text) => read_thin(alloc, scratch, names, text),
         Err(_) => Ok(None),
     }
 }

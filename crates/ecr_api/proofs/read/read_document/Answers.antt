@@ -1,7 +1,8 @@
-use Rattle.std.proofs.Common.{◌≡◌, ◌∙◌, Option, IfOk, option_map, ap, sym, subst}
+use Rattle.std.proofs.Common.{◌≡◌, ◌∙◌, Option, IfOk, option_map, ap, sym, subst, map}
 use Rattle.serde_json.specs.Data.{Data}
 use Rattle.serde_json.specs.Read.{read}
 use Rattle.serde_json.specs.View.{view}
+use Rattle.ecr_json.specs.Thin.{IsThinOf}
 use Rattle.ecr_model.specs.Members.{document}
 use Rattle.ecr_api.proofs.ReadLemmas.{document-IsUtf8}
 use Rattle.ecr_api.proofs.read.read_document.Goals as goal
@@ -11,4 +12,4 @@ pub returns-in-Ok : goal.returns-in-Ok
 returns-in-Ok c =
     let utf8 = c.in-Ok.ensures.cases in
     let same : read c.in-Ok.text.now ≡ document c.args.body.now = ap read utf8.0 ∙ sym (document-IsUtf8 c.args.body.now utf8.1) in
-    subst (λ (d : Option Data). IfOk c.read_json.result (λ o. option_map view o ≡ d)) same c.read_json.ensures
+    subst (λ (d : Option Data). IfOk c.read_thin.result (λ o. IsThinOf (map (λ n. n.now) c.args.names.now) (option_map view o) d)) same c.read_thin.ensures
