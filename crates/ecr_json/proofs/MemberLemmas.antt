@@ -1,8 +1,7 @@
 -- The members of an object as they are read thinly.
-use Rattle.std.proofs.Common.{◌≡◌, ℕ, zero, suc, ◌-◌, ◌<◌, ◌≤◌, List, [], ◌∷◌, length, true, false, Option, Some, None, is_some, if◌then◌else◌, option_map, option_and_then, refl, sym, ap, ◌∙◌, subst, arith, true≢false, bytes_eq}
+use Rattle.std.proofs.Common.{◌≡◌, ℕ, ◌-◌, ◌<◌, List, [], ◌∷◌, length, true, false, Option, Some, None, is_some, if◌then◌else◌, option_map, refl, sym, ap, ◌∙◌, subst, arith, true≢false, bytes_eq}
 use Rattle.std.specs.Prelude.{Bool as Truth}
 use Rattle.std.specs.Bool.{MatchBool}
-use Rattle.std.specs.List.{list_any}
 use Rattle.std.proofs.lemmas.Slice.Eq.{bytes_eq-Decides}
 use Rattle.json.specs.Token.{Token}
 use Rattle.json.specs.Json as json
@@ -11,7 +10,7 @@ use Rattle.json.proofs.Grammar.{value-begin_object, read_key-shorter, left_some,
 use Rattle.serde_json.specs.Data as json_data
 use Rattle.serde_json.specs.Data.{Data, null, object, Members, no_members, put}
 use Rattle.serde_json.specs.Find.{get, get_member, as_object}
-use Rattle.serde_json.specs.Read.{of_json, of_members, converted}
+use Rattle.serde_json.specs.Read.{of_json, converted}
 use Rattle.serde_json.proofs.Views.{get_member-put, get_member-put_other}
 use Rattle.ecr_json.specs.Passing.{behind, passed}
 use Rattle.ecr_json.specs.Thin.{is_named, thin, IsThin, IsThinOf}

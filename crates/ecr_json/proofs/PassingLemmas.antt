@@ -2,7 +2,7 @@
 use Rattle.std.proofs.Common.{◌≡◌, ℕ, zero, suc, ◌-◌, ◌<◌, ◌≤◌, List, [], ◌∷◌, length, Option, Some, None, is_some, option_map, nat_lt, refl, ap, ◌∙◌, arith}
 use Rattle.std.specs.Bool.{MatchBool}
 use Rattle.json.specs.Token.{Token}
-use Rattle.json.specs.Json.{parse_map, after_end_array, read_key, items, members, value}
+use Rattle.json.specs.Json.{after_end_array, read_key, items, members, value}
 use Rattle.json.proofs.Grammar.{value_is, value-begin_array, value-begin_object, left-parse_map, left_some, left_none, skip_value-shorter, read_key-shorter}
 use Rattle.serde_json.specs.Data.{array, object, item, no_members, put}
 use Rattle.serde_json.specs.Read.{of_json, of_items, of_members, converted, number_of}

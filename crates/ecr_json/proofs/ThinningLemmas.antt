@@ -1,5 +1,5 @@
 -- Values as they are read thinly, token by token.
-use Rattle.std.proofs.Common.{◌≡◌, ℕ, zero, suc, ◌-◌, ◌<◌, ◌≤◌, min, List, [], ◌∷◌, ◌++◌, length, take, true, false, Bor, Option, Some, None, is_some, if◌then◌else◌, option_map, option_and_then, refl, sym, ap, ◌∙◌, arith, take_all}
+use Rattle.std.proofs.Common.{◌≡◌, ℕ, zero, suc, ◌-◌, ◌<◌, ◌≤◌, List, [], ◌∷◌, ◌++◌, length, take, true, false, Bor, Option, Some, None, is_some, if◌then◌else◌, option_map, option_and_then, refl, sym, ap, ◌∙◌, arith, take_all}
 use Rattle.std.proofs.lemmas.List.{take-append-le, length-take, length-append}
 use Rattle.std.specs.Prelude.{Bool as Truth}
 use Rattle.std.specs.Bool.{MatchBool}
@@ -15,9 +15,9 @@ use Rattle.serde_json.specs.Find.{as_str, as_object}
 use Rattle.serde_json.specs.Read.{of_json, of_items, of_members, converted, number_of}
 use Rattle.serde_json.specs.View.{view, items_view}
 use Rattle.serde_json.specs.declared.value.Value.{Value}
-use Rattle.ecr_json.specs.Passing.{behind, passed, passed_items, passed_members}
+use Rattle.ecr_json.specs.Passing.{behind, passed_items, passed_members}
 use Rattle.ecr_json.specs.Thin.{are_texts, first_items, max_texts, thin}
-use Rattle.ecr_json.specs.Thinning.{thin_value, thin_list, emptied, read_members, texts_before, AreFirst, ReadsTexts}
+use Rattle.ecr_json.specs.Thinning.{thin_value, thin_list, emptied, texts_before, AreFirst, ReadsTexts}
 use Rattle.ecr_json.proofs.ReadingLemmas.{converted-array, converted-object, items-more, items-refused, items-over}
 use Rattle.ecr_json.proofs.PassingLemmas.{passed-shorter}
 
@@ -160,9 +160,9 @@ module _ (depth : ℕ) (ts : List Token) where
   first_token (Token.string s) d r e = let same = ap data_in (sym e) in (ap as_str same, ap (λ x. is_some (as_object x)) same)
   first_token (Token.number s) d r e = of_number (number_of s) d r e
     where
-    of_number : (o : Option Num) (d : Data) (r : List Token) → option_map {U = Data × List Token} (λ b. (b, ts)) (option_map number o) ≡ Some (d, r) → IsOf (Token.number s) d
-    of_number None d r e = absurd (cc)
-    of_number (Some n) d r e = let same = ap data_in (sym e) in (ap as_str same, ap (λ x. is_some (as_object x)) same)
+      of_number : (o : Option Num) (d : Data) (r : List Token) → option_map {U = Data × List Token} (λ b. (b, ts)) (option_map number o) ≡ Some (d, r) → IsOf (Token.number s) d
+      of_number None d r e = absurd (cc)
+      of_number (Some n) d r e = let same = ap data_in (sym e) in (ap as_str same, ap (λ x. is_some (as_object x)) same)
   first_token (Token.boolean b) d r e = let same = ap data_in (sym e) in (ap as_str same, ap (λ x. is_some (as_object x)) same)
   first_token Token.null d r e = let same = ap data_in (sym e) in (ap as_str same, ap (λ x. is_some (as_object x)) same)
   first_token Token.bad d r e = absurd (cc)
@@ -323,8 +323,8 @@ module _ (depth : ℕ) (first left : List Token) (vs : List Value) where
       let kind = value-first depth s t d r (ap (λ ts. converted of_json (value depth ts)) (sym is) ∙ e) in
       let turns = items-turns p (skip_value-shorter depth) (h.turns - 1) (length r) r (omega (arith, h.enough, less)) (omega arith) in
       ap (parse_map (λ ds. thin (array ds))) (h.same ∙ ap (parse_map (texts_before h.texts)) (items-more p h.turns left r d some going e))
-          ∙ others h.texts d (kind.0 ∙ other) (converted of_items (items p (h.turns - 1) r))
-          ∙ ap (λ js. option_map (λ rest. (object no_members, rest)) (behind (converted of_items js))) turns
+      ∙ others h.texts d (kind.0 ∙ other) (converted of_items (items p (h.turns - 1) r))
+      ∙ ap (λ js. option_map (λ rest. (object no_members, rest)) (behind (converted of_items js))) turns
 
   -- an item that is no text empties the list
   pub ReadsTexts-others : ReadsTexts depth first left vs → (t : Token) (s : List Token) → left ≡ t ∷ s → text_of t ≡ None → after_end_array left ≡ None → thin_list depth first ≡ emptied depth (t ∷ s)

@@ -1,6 +1,6 @@
 -- JSON values that are read thinly: of an object the members of given names alone, each without what is nested in it
 -- (of this registry: docs/DECISIONS.md, "Thin reading"). A name is the list of its bytes.
-use Rattle.std.specs.Prelude.{◌≡◌, ◌&&◌, ℕ, zero, suc, Bool, true, false, List, map, Option, None, Some, is_some, if◌then◌else◌, option_map, bytes_eq}
+use Rattle.std.specs.Prelude.{◌≡◌, ◌&&◌, ℕ, zero, suc, Bool, true, List, Option, None, Some, is_some, if◌then◌else◌, option_map, bytes_eq}
 use Rattle.std.specs.List.{list_any}
 use Rattle.serde_json.specs.Data.{Data, null, boolean, number, string, array, object, Items, no_items, item, no_members}
 use Rattle.serde_json.specs.Find.{get, as_object, as_str}

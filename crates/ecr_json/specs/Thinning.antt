@@ -7,8 +7,8 @@ use Rattle.serde_json.specs.Find.{get_member}
 use Rattle.serde_json.specs.Read.{of_json, of_items, of_members, converted}
 use Rattle.serde_json.specs.View.{items_view}
 use Rattle.serde_json.specs.declared.value.Value.{Value}
-use Rattle.ecr_json.specs.Passing.{behind, passed, passed_items}
-use Rattle.ecr_json.specs.Thin.{is_named, max_texts, thin, IsThin}
+use Rattle.ecr_json.specs.Passing.{passed, passed_items}
+use Rattle.ecr_json.specs.Thin.{is_named, max_texts, thin}
 
 -- a value that nests no deeper than the number, thinly, and the tokens behind it
 abbrev pub thin_value : ℕ → List Token → Option (Data × List Token)

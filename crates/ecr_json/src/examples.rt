@@ -1,6 +1,7 @@
-// Members that are read, texts in base64 and objects that are written.
-use crate::{Builder, Field, Mem, decode_blob, list, object, text, truth, whole};
-use serde_json::{Value, json};
+// Members that are read, texts that are read thinly, texts in base64 and objects that are written.
+use crate::{Builder, Field, Mem, decode_blob, list, object, read_thin, text, truth, whole};
+use json::Scratch;
+use serde_json::{Map, Value, json};
 use std::alloc::Global;
 use std::test::Fail;
 
@@ -141,4 +142,162 @@ fn an_object_is_written_in_the_order_of_its_names(rt: HostRuntime) -> Result<(),
         "{\"Zone\":\"é\",\"layers\":[{\"a\":null,\"b\":true}],\"repositoryName\":\"app/\\\"a\\\"\\n\",\"size\":18446744073709551615}".as_bytes()
     );
     Ok(())
+}
+
+#[test]
+fn what_is_kept_of_a_text_is_in_its_tree(rt: HostRuntime) -> Result<(), Fail> {
+    let alloc = rt.alloc();
+    let mut scratch = Scratch::new(alloc);
+    for written in [
+        r#""#,
+        r#" "#,
+        r#"{}"#,
+        r#"{"#,
+        r#"{}}"#,
+        r#"{},"#,
+        r#"[]"#,
+        r#"[{"a":1}]"#,
+        r#"null"#,
+        r#"1e999"#,
+        r#""a""#,
+        r#"{"a":1,"b":"x","c":true}"#,
+        r#"{"a":null,"b":false}"#,
+        r#"{"a":1,"a":2,"b":[],"b":{}}"#,
+        r#"{"a":["x","\u00e9"],"b":["x",1]}"#,
+        r#"{"a":[["x"]],"b":{"a":"x"}}"#,
+        r#"{"\u0061":"x","A":1,"":2}"#,
+        r#"{"a":"\ud800"}"#,
+        r#"{"c":"\ud800"}"#,
+        r#"{"c":"\x"}"#,
+        r#"{"c":1e999}"#,
+        r#"{"c":[1e999]}"#,
+        r#"{"a":[1e999]}"#,
+        r#"{"a":["x",1e999]}"#,
+        r#"{"c":{"a":-1e999}}"#,
+        r#"{"a":-0,"b":18446744073709551616}"#,
+        r#"{"a":0.5,"b":-9223372036854775808}"#,
+        r#"{"c":[1,]}"#,
+        r#"{"c":{"a"}}"#,
+        r#"{"c":[}}"#,
+        r#"{"a":["x"}}"#,
+        r#"{"a":1 "b":2}"#,
+        r#"{"a":01}"#,
+        r#"{"c":tru}"#,
+    ]
+    .iter()
+    {
+        assert!(rt; agrees(alloc, &mut scratch, *written)?, "{written}");
+    }
+    for (head, piece, middle, close, tail) in [
+        (r#"{"a":"#, "[", "", "]", "}"),
+        (r#"{"c":"#, "[", "1", "]", "}"),
+        (r#"{"c":"#, r#"{"a":"#, "1", "}", "}"),
+        (r#"{"a":["#, r#""x","#, r#""y""#, "", "]}"),
+        (r#"{"b":["#, r#""x","#, "1", "", "]}"),
+    ]
+    .iter()
+    {
+        for times in [99, 100, 101, 102, 124, 125, 126, 127, 128].iter() {
+            let written = repeated(alloc, *head, *piece, *middle, *close, *tail, *times)?;
+            assert!(rt;
+                agrees(alloc, &mut scratch, written.as_str())?,
+                "{head} {times}"
+            );
+        }
+    }
+    Ok(())
+}
+
+#[test]
+fn a_mebibyte_is_read_as_its_tree(rt: HostRuntime) -> Result<(), Fail> {
+    let alloc = rt.alloc();
+    let mut scratch = Scratch::new(alloc);
+    for (head, piece, tail) in [
+        (r#"{"a":"#, "[", "}"),
+        (r#"{"c":["#, r#"{"k":1},"#, r#"0],"a":1}"#),
+        (r#"{"#, r#""c":0,"#, r#""a":"x"}"#),
+        (r#"{"a":""#, "x", r#""}"#),
+        (r#"{"c":["#, "12345,", r#"1e999]}"#),
+        (r#"{"a":["#, r#""x","#, r#""y"]}"#),
+        (r#"{"a":["#, r#""x","#, r#"{}],"b":1}"#),
+    ]
+    .iter()
+    {
+        let times = (1 << 20) / piece.len();
+        let written = repeated(alloc, *head, *piece, "", "", *tail, times)?;
+        assert!(rt;
+            agrees(alloc, &mut scratch, written.as_str())?,
+            "{head}{piece}"
+        );
+    }
+    Ok(())
+}
+
+/// The piece so often between the head and the middle, and the close so often behind it.
+fn repeated(
+    alloc: Global,
+    head: &str,
+    piece: &str,
+    middle: &str,
+    close: &str,
+    tail: &str,
+    times: usize,
+) -> Result<String, Mem> {
+    let mut written = String::from_str(alloc, head)?;
+    for _ in 0..times {
+        written.push_str(piece)?;
+    }
+    written.push_str(middle)?;
+    for _ in 0..times {
+        written.push_str(close)?;
+    }
+    written.push_str(tail)?;
+    Ok(written)
+}
+
+/// Whether the text is read by the names `a` and `b` as its tree has them.
+fn agrees(alloc: Global, scratch: &mut Scratch, written: &str) -> Result<bool, Mem> {
+    let kept = read_thin(alloc, scratch, &["a", "b"], written)?;
+    let all = match Value::from_str(alloc, written) {
+        Ok(value) => Some(value),
+        Err(error) if error.is_memory() => return Err(Mem),
+        Err(_) => None,
+    };
+    match (&kept, &all) {
+        (Some(kept), Some(all)) => {
+            let members = is_kept(alloc, kept, all, "a")? && is_kept(alloc, kept, all, "b")?;
+            Ok(members && kept.is_object() == all.is_object() && kept.get("c").is_none())
+        }
+        (None, None) => Ok(true),
+        _ => Ok(false),
+    }
+}
+
+/// Whether the member is kept as the tree has it, thinly.
+fn is_kept(alloc: Global, kept: &Value, all: &Value, name: &str) -> Result<bool, Mem> {
+    match (kept.get(name), all.get(name)) {
+        (Some(kept), Some(all)) => Ok(*kept == thinly(alloc, all)?),
+        (None, None) => Ok(true),
+        _ => Ok(false),
+    }
+}
+
+/// The value without what is nested in it; a list of texts has the first 101.
+fn thinly(alloc: Global, value: &Value) -> Result<Value, Mem> {
+    match value {
+        Value::Array(items) => {
+            let mut texts = Vec::new(alloc);
+            for item in items {
+                if !item.is_string() {
+                    return Ok(Value::Object(Map::new(alloc)));
+                }
+                if texts.len() < 101 {
+                    texts.push(item.clone()?)?;
+                }
+            }
+            Ok(Value::Array(texts))
+        }
+        Value::Object(_) => Ok(Value::Object(Map::new(alloc))),
+        _ => value.clone(),
+    }
 }

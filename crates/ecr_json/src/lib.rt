@@ -1,7 +1,8 @@
-//! JSON for whoever speaks it: the members of a value, base64 in a text, and objects that are written (RFC 8259;
-//! RFC 4648, section 4).
+//! JSON for whoever speaks it: texts that are read thinly, the members of a value, base64 in a text, and objects that
+//! are written (RFC 8259; RFC 4648, section 4).
 //!
-//! A member that is null counts as absent. It keeps nothing, and reads no text: a value comes from `serde_json`.
+//! A text is read by the names of members, as `serde_json` reads it, and what isn't named takes no memory. A member
+//! that is null counts as absent. It keeps nothing.
 #![tactic(auto)]
 
 mod blob;
@@ -18,5 +19,5 @@ pub use blob::decode_blob;
 pub use builder::Builder;
 pub use field::Field;
 pub use members::{list, object, text, truth, whole};
-pub use thin::read_thin;
 pub use std::alloc::AllocError as Mem;
+pub use thin::read_thin;

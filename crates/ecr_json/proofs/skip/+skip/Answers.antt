@@ -1,11 +1,9 @@
-use Rattle.std.proofs.Common.{◌≡◌, ◌∷◌, [], None, Some, ◌<◌, ◌≤◌, length, refl, sym, ap, ◌∙◌, subst, arith}
-use Rattle.json.specs.Token.{Token}
-use Rattle.json.specs.Json.{after_end_array, read_key, value}
+use Rattle.std.proofs.Common.{◌≡◌, ◌∷◌, [], None, Some, length, refl, ap, ◌∙◌, arith}
+use Rattle.json.specs.Json.{after_end_array, read_key}
 use Rattle.json.specs.Reads.{token_of}
 use Rattle.json.proofs.Grammar.{value_is, read_key-shorter}
 use Rattle.serde_json.specs.Data.{no_members}
-use Rattle.serde_json.specs.Read.{of_json, converted}
-use Rattle.ecr_json.specs.Passing.{behind, passed, passed_items, passed_members}
+use Rattle.ecr_json.specs.Passing.{passed}
 use Rattle.ecr_json.proofs.PassingLemmas.{passed-begin_array, passed-begin_object, passed-deep_array, passed-deep_object, passed-number, passed-empty, passed-shorter, PassesItems-more, PassesItems-refused, PassesItems-over, PassesMembers-more, PassesMembers-refused, PassesMembers-no_key, PassesMembers-over}
 use Rattle.ecr_json.proofs.skip.+skip.Goals as goal
 

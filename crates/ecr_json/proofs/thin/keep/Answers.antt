@@ -1,4 +1,4 @@
-use Rattle.std.proofs.Common.{◌≡◌, ◌≤◌, ◌<◌, ◌∷◌, ◌++◌, [], length, sym, ap, subst, arith}
+use Rattle.std.proofs.Common.{◌≤◌, ◌<◌, ◌∷◌, ◌++◌, [], length, sym, subst, arith}
 use Rattle.ecr_json.specs.Thin.{max_texts}
 use Rattle.ecr_json.specs.Thinning.{AreFirst}
 use Rattle.ecr_json.proofs.ThinningLemmas.{AreFirst-more, AreFirst-full}

@@ -1,4 +1,4 @@
-use Rattle.std.proofs.Common.{◌≡◌, None, Some, map, sym, ap, ◌∙◌, arith}
+use Rattle.std.proofs.Common.{◌≡◌, None, Some, map, ap, arith}
 use Rattle.json.specs.Json.{read_key}
 use Rattle.serde_json.specs.View.{members_view}
 use Rattle.ecr_json.proofs.MemberLemmas.{ReadsMembers-none, ReadsMembers-more, ReadsMembers-smaller, ReadsMembers-refused, ReadsMembers-no_key, ReadsMembers-over}

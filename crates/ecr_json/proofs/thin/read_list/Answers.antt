@@ -1,4 +1,4 @@
-use Rattle.std.proofs.Common.{◌≡◌, ◌∷◌, [], None, Some, length, sym, ap, ◌∙◌, arith}
+use Rattle.std.proofs.Common.{◌≡◌, ◌∷◌, [], None, Some, sym, ap, ◌∙◌, arith}
 use Rattle.json.specs.Json.{after_end_array}
 use Rattle.json.specs.Token.{Token}
 use Rattle.json.specs.Reads.{token_of}
@@ -32,4 +32,4 @@ pub returns : goal.returns
 returns c =
     let over : after_end_array c.items.reader ≡ Some c.take_end_array.new.self = grind arith in
     ReadsTexts-over c.args.depth c.args.reader.now c.items.reader c.items.texts.items c.take_end_array.new.self c.items.invariant over
-        ∙ ap (λ d. Some (d, c.take_end_array.new.self)) (sym (view-Array c.items.texts))
+    ∙ ap (λ d. Some (d, c.take_end_array.new.self)) (sym (view-Array c.items.texts))

@@ -1,4 +1,4 @@
-use Rattle.std.proofs.Common.{◌≡◌, false, None, Some, map, sym, ap, ◌∙◌, arith, option_map}
+use Rattle.std.proofs.Common.{◌≡◌, false, Some, map, sym, ap, ◌∙◌, option_map}
 use Rattle.json.specs.Json.{value}
 use Rattle.serde_json.specs.Read.{of_json, converted}
 use Rattle.serde_json.specs.View.{view, members_view}

@@ -1,11 +1,6 @@
-use Rattle.std.proofs.Common.{◌≡◌, None, Some, map, sym, ap, subst}
-use Rattle.json.specs.Token.{Token}
-use Rattle.json.specs.Json.{value}
-use Rattle.serde_json.specs.Read.{of_json, converted}
+use Rattle.std.proofs.Common.{None, Some, map}
 use Rattle.serde_json.specs.View.{members_view}
 use Rattle.serde_json.proofs.Views.{view-Object}
-use Rattle.ecr_json.specs.Thin.{IsThin}
-use Rattle.ecr_json.specs.Thinning.{KeepsOf}
 use Rattle.ecr_json.proofs.MemberLemmas.{KeepsOf-object}
 use Rattle.ecr_json.proofs.thin.read_object.Goals as goal
 

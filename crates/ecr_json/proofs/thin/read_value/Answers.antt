@@ -1,5 +1,4 @@
 use Rattle.std.proofs.Common.{◌≡◌, [], ap, ◌∙◌, arith}
-use Rattle.serde_json.specs.Read.{of_json, converted}
 use Rattle.json.specs.Json.{parse_map}
 use Rattle.ecr_json.specs.Thin.{thin}
 use Rattle.ecr_json.specs.Thinning.{thin_value}
