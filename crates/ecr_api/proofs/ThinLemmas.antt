@@ -5,8 +5,8 @@ use Rattle.std.specs.Option.{option_map_or}
 use Rattle.std.proofs.lemmas.Bool.Decides.{nat_tests}
 use Rattle.serde_json.specs.Data as json_data
 use Rattle.serde_json.specs.Data.{Data, Items, no_items, item, array, object, no_members}
-use Rattle.serde_json.specs.Find.{get, as_null, as_str, as_bool, as_array, as_number, as_integer, as_object}
-use Rattle.ecr_json.specs.Thin.{are_texts, first_items, max_texts, thin, is_named, IsThin, IsThinOf}
+use Rattle.serde_json.specs.Find.{get, as_str, as_bool, as_array, as_number, as_integer, as_object}
+use Rattle.ecr_json.specs.Thin.{are_texts, first_items, max_texts, thin, IsThin, IsThinOf}
 use Rattle.ecr_model.specs.declared.action.Action.{Action}
 use Rattle.ecr_model.specs.declared.action.Action.TheVariants.{CreateRepository, DeleteRepository, DescribeRepositories, PutImageTagMutability}
 use Rattle.ecr_model.specs.declared.action.Domain.{Domain}
@@ -67,9 +67,9 @@ unless_null-thin (json_data.number n) = refl
 unless_null-thin (json_data.string s) = refl
 unless_null-thin (array ds) = there (are_texts ds) (first_items max_texts ds)
   where
-  there : (b : Bool) (fs : Items) → unless_null (if b then array fs else object no_members) ≡ Some (if b then array fs else object no_members)
-  there true fs = refl
-  there false fs = refl
+    there : (b : Bool) (fs : Items) → unless_null (if b then array fs else object no_members) ≡ Some (if b then array fs else object no_members)
+    there true fs = refl
+    there false fs = refl
 unless_null-thin (object ms) = refl
 
 both_are : (a b : Bool) → (a && b) ≡ true → (a ≡ true) × (b ≡ true)
@@ -95,9 +95,9 @@ is_list-thin (json_data.number n) = refl
 is_list-thin (json_data.string s) = refl
 is_list-thin (array ds) = kept (are_texts ds) refl
   where
-  kept : (b : Bool) → are_texts ds ≡ b → option_map_or model.are_texts (as_array (if b then array (first_items max_texts ds) else object no_members)) false ≡ model.are_texts ds
-  kept true e = are_texts-first_items max_texts ds e ∙ sym e ∙ are_texts-same ds
-  kept false e = sym e ∙ are_texts-same ds
+    kept : (b : Bool) → are_texts ds ≡ b → option_map_or model.are_texts (as_array (if b then array (first_items max_texts ds) else object no_members)) false ≡ model.are_texts ds
+    kept true e = are_texts-first_items max_texts ds e ∙ sym e ∙ are_texts-same ds
+    kept false e = sym e ∙ are_texts-same ds
 is_list-thin (object ms) = refl
 
 -- a value keeps its type in each domain
@@ -234,7 +234,7 @@ module _ (names : List (List ℕ)) (kept all : Data) (h : IsThin names kept all)
     is_bad-thin : (m : Member) → IsNamed names m.parameter → IsNamedOrNone names m.apart → is_typed all m ≡ true → is_bad base served kept m ≡ is_bad base served all m
     is_bad-thin m named apart typed =
         ap₂ (λ o b. option_map_or (λ value. not (allows base served m.domain value) || b) o m.required) (value_of-thin m.parameter named) (beside-thin m.apart apart)
-            ∙ bad_at base served m.domain (stands_beside all m.apart) m.required (value_of m.parameter all) typed
+        ∙ bad_at base served m.domain (stands_beside all m.apart) m.required (value_of m.parameter all) typed
 
     find-thin : (ms : List Member) → AreNamed names ms → list_all (is_typed all) ms ≡ true → find (is_bad base served kept) ms ≡ find (is_bad base served all) ms
     find-thin [] n typed = refl
@@ -313,7 +313,7 @@ module _ (base : SiteId) (served : List SiteId) (names : List (List ℕ)) where
         let same_names : names_in kept ≡ names_in all =
         ap (option_map named) (value_of-thin names kept all h RepositoryNames n.2.0) ∙ names_kept base served false (value_of RepositoryNames all) typed_names second.0 in
         ap₂ (λ site page. many site (names_in kept) page) (site_in-thin names kept all h base served n.0) (page_in-thin n.2.2.0 n.2.2.2.0)
-            ∙ ap (λ listed. many (site_in base served all) listed (page_in all)) same_names
+        ∙ ap (λ listed. many (site_in base served all) listed (page_in all)) same_names
     asked_by-thin PutImageTagMutability n typed fine = ap₂ (λ key mutability. cell key (SetMutability mutability) None) (key_in-thin n.0 n.2.0) (mutability_in-thin n.2.2.0)
 
     typed_at : (action : Action) → AreNamed names (members_of action) → (b : Bool) → are_typed (members_of action) all ≡ b → typed_reading base served action kept ≡ typed_reading base served action all

@@ -34,7 +34,7 @@ pub fn read_thin(
     names: &[&str],
     text: &str,
 ) -> Result<Option<Value>, Mem>
-    ensures { IfOk result (λ o. IsThinOf (map (λ n. n.now) names.now) (option_map view o) (read text.now)) }
+    ensures exact { IfOk result (λ o. IsThinOf (map (λ n. n.now) names.now) (option_map view o) (read text.now)) }
 {
     let mut reader = Reader::new(text, scratch)?;
     match read_front(alloc, &mut reader, names)? {
@@ -55,7 +55,8 @@ fn unless_more(reader: &mut Reader<'_>, kept: Value) -> Option<Value>
 
 /// The value that comes first, thinly; of one that isn't an object null is kept.
 fn read_front(alloc: Global, reader: &mut Reader<'_>, names: &[&str]) -> Result<Option<Value>, Mem>
-    ensures { IfOk result (λ o. KeepsOf (IsThin (map (λ n. n.now) names.now)) (converted of_json (value 127 reader.old)) (option_map view o) reader.new) }
+    ensures { IfOk result (λ o. let all = converted of_json (value 127 reader.old) in
+        KeepsOf (IsThin (map (λ n. n.now) names.now)) all (option_map view o) reader.new) }
 {
     let Some(token) = reader.next() else {
         return Ok(None);
@@ -76,7 +77,8 @@ fn null_if(is_right: bool) -> Option<Value>
 
 /// The object behind its brace, thinly.
 fn read_object(alloc: Global, reader: &mut Reader<'_>, names: &[&str]) -> Result<Option<Value>, Mem>
-    ensures { IfOk result (λ o. KeepsOf (IsThin (map (λ n. n.now) names.now)) (converted of_json (value 127 (token.begin_object ∷ reader.old))) (option_map view o) reader.new) }
+    ensures { IfOk result (λ o. let all = converted of_json (value 127 (token.begin_object ∷ reader.old)) in
+        KeepsOf (IsThin (map (λ n. n.now) names.now)) all (option_map view o) reader.new) }
 {
     match read_kept(alloc, reader, names, MAX_DEPTH - 1)? {
         Some(found) => Ok(Some(Value::Object(found))),
@@ -91,7 +93,8 @@ fn read_kept(
     names: &[&str],
     depth: usize,
 ) -> Result<Option<Map<String, Value>>, Mem>
-    ensures { IfOk result (λ o. KeepsOf (HasThin (map (λ n. n.now) names.now)) (read_members depth reader.old) (option_map (λ m. members_view m.entries) o) reader.new) }
+    ensures { IfOk result (λ o. let kept = option_map (λ m. members_view m.entries) o in
+        KeepsOf (HasThin (map (λ n. n.now) names.now)) (read_members depth reader.old) kept reader.new) }
 {
     let mut found = Map::new(alloc);
     'members: loop {

@@ -1,6 +1,6 @@
 use Rattle.std.proofs.Common.{◌≡◌, Some, map, option_map, sym, ap, subst, ◌∙◌}
 use Rattle.serde_json.specs.View.{view}
-use Rattle.ecr_model.specs.Actions.{Reading, reading, body_reading, action_reading, action_of}
+use Rattle.ecr_model.specs.Actions.{Reading, reading, action_reading, action_of}
 use Rattle.ecr_model.specs.Members.{document}
 use Rattle.ecr_api.specs.Readings.{Reads}
 use Rattle.ecr_api.proofs.ThinLemmas.{body_reading-thin}
