@@ -1,5 +1,6 @@
 pub mod CrossingLemmas
-pub mod RoomLemmas
+pub mod DirectoryLemmas
+pub mod RepositoryLemmas
 pub mod RunLemmas
-pub mod WardLemmas
+pub mod SiteLemmas
 pub mod WorldLemmas

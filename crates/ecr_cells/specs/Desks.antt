@@ -1,4 +1,4 @@
--- What is kept of all sites, as a desk's journals (docs/DECISIONS.md, "Scripts"), and a turn on it.
+-- The cells of all sites as the journals of a desk, and a turn in one of them (docs/DECISIONS.md, "Scripts").
 use Rattle.std.specs.Prelude.{◌≡◌, ℕ, ◌+◌, List, [], ◌∷◌, Option, None, Some, IfSome, IsSome, All, cond}
 use Rattle.std.specs.BTreeMap.{is_at}
 use Rattle.std.specs.Map.{lookup}
@@ -8,94 +8,96 @@ use Rattle.ecr_model.specs.declared.journal.Limits.{Limits}
 use Rattle.ecr_model.specs.declared.journal.Line.{Line}
 use Rattle.ecr_model.specs.declared.journal.Place.{Place}
 use Rattle.ecr_model.specs.declared.names.SiteId.{SiteId}
-use Rattle.ecr_model.specs.Scripts.{Ask, Told, World, next_turn, entered, place_of, count_of}
+use Rattle.ecr_model.specs.Scripts.{Ask, Told, World, next_ticket, next_turn, entered, place_of, count_of}
 use Rattle.ecr_model.specs.Sites.{site_order}
+use Rattle.ecr_model.specs.Soundness.{AreSound}
 use Rattle.ecr_desk.specs.Desks.{Seen}
-use Rattle.ecr_cells.specs.Wards.{Held, lines_of, site_of, IsQuiet, IsTurn}
+use Rattle.ecr_cells.specs.SiteCells.{Site, lines_of, site_of, IsQuiet, IsTurn}
 
--- what is kept of a site, where it is served
-abbrev pub ward_at : List (SiteId × Held) → SiteId → Option Held
-ward_at wards site = lookup (is_at (site_order site)) wards
+-- the cells of a site, where it is served
+abbrev pub site_at : List (SiteId × Site) → SiteId → Option Site
+site_at sites site = lookup (is_at (site_order site)) sites
 
 -- the journal of a cell; that of a site that isn't served is empty
-abbrev pub lines_at : List (SiteId × Held) → CellKey → List Line
-lines_at wards cell = option_map_or (λ ward. lines_of ward cell) (ward_at wards (site_of cell)) []
+abbrev pub lines_at : List (SiteId × Site) → CellKey → List Line
+lines_at sites cell = option_map_or (λ kept. lines_of kept cell) (site_at sites (site_of cell)) []
 
--- the journals of all cells
-abbrev pub world_of : List (SiteId × Held) → World
-world_of wards = record { journals = lines_at wards }
+-- the journals of all cells; no upload has a part yet
+abbrev pub world_of : List (SiteId × Site) → World
+world_of sites = record { journals = lines_at sites; parts = λ key number. [] }
 
--- the served sites and the limits, what is kept of each site, and how many entries were added
+-- the served sites and the limits, the cells of each site, and the number of entries that were added
 pub record Desk : Type 0 where
   pub served : List SiteId
   pub limits : Limits
-  pub wards : List (SiteId × Held)
+  pub sites : List (SiteId × Site)
   pub made : ℕ
 
--- what is seen of it
+-- the sites and limits, the journals, and the number of entries of a desk
 abbrev pub seen_of : Desk → Seen
-seen_of desk = record { realm = record { served = desk.served; limits = desk.limits }; world = world_of desk.wards; made = desk.made }
+seen_of desk = record { realm = record { served = desk.served; limits = desk.limits }; world = world_of desk.sites; made = desk.made }
 
--- it is what is kept of that site
-pub record IsWard (served : List SiteId) (limits : Limits) (site : SiteId) (ward : Held) : Type 0 where
-  pub site_is : ward.directory.site ≡ site
-  pub served_are : ward.directory.served ≡ served
-  pub limits_are : ward.directory.limits ≡ limits
+-- the cells are those of that site
+pub record IsOfSite (served : List SiteId) (limits : Limits) (site : SiteId) (kept : Site) : Type 0 where
+  pub site_is : kept.directory.site ≡ site
+  pub served_are : kept.directory.served ≡ served
+  pub limits_are : kept.directory.limits ≡ limits
 
--- what is kept is of its site, and something is kept of each served one
-pub record AreKept (served : List SiteId) (limits : Limits) (wards : List (SiteId × Held)) : Type 0 where
-  pub each : (site : SiteId) → IfSome (ward_at wards site) (IsWard served limits site)
-  pub all : All (λ site. IsSome (ward_at wards site)) served
+-- the cells of each site are its own, each served site has some, and every journal is sound
+pub record AreKept (served : List SiteId) (limits : Limits) (sites : List (SiteId × Site)) : Type 0 where
+  pub each : (site : SiteId) → IfSome (site_at sites site) (IsOfSite served limits site)
+  pub all : All (λ site. IsSome (site_at sites site)) served
+  pub sound : AreSound (record { served = served; limits = limits }) (lines_at sites)
 
--- something is kept of the site, and it is of that site
-pub record IsServed (wards : List (SiteId × Held)) (site : SiteId) : Type 0 where
-  pub ward : Held
-  pub found : ward_at wards site ≡ Some ward
-  pub site_is : ward.directory.site ≡ site
+-- the site has cells, and they are its own
+pub record IsServed (sites : List (SiteId × Site)) (site : SiteId) : Type 0 where
+  pub kept : Site
+  pub found : site_at sites site ≡ Some kept
+  pub site_is : kept.directory.site ≡ site
 
 -- a site with no name
-abbrev pub empty_ward : List SiteId → Limits → SiteId → Held
-empty_ward served limits site = record { directory = record { site = site; served = served; limits = limits; journal = [] }; rooms = [] }
+abbrev pub empty_site : List SiteId → Limits → SiteId → Site
+empty_site served limits site = record { directory = record { site = site; served = served; limits = limits; journal = [] }; repositories = [] }
 
--- no name is registered, and nothing was made
-abbrev pub AreEmpty : List SiteId → Limits → List (SiteId × Held) → Type 0
-AreEmpty served limits wards = (site : SiteId) → IfSome (ward_at wards site) (λ ward. ward ≡ empty_ward served limits site)
+-- each site has no name, and no journal has a line
+abbrev pub AreEmpty : List SiteId → Limits → List (SiteId × Site) → Type 0
+AreEmpty served limits sites = (site : SiteId) → IfSome (site_at sites site) (λ kept. kept ≡ empty_site served limits site)
 
 -- the site has no name from now on, and the other sites are as before
-abbrev pub Adds : List (SiteId × Held) → List (SiteId × Held) → SiteId → List SiteId → Limits → Type 0
-Adds wards news site served limits = (other : SiteId)
-    → ward_at news other ≡ cond (is_at (site_order site) other) (Some (empty_ward served limits site)) (ward_at wards other)
+abbrev pub Adds : List (SiteId × Site) → List (SiteId × Site) → SiteId → List SiteId → Limits → Type 0
+Adds sites news site served limits = (other : SiteId)
+    → site_at news other ≡ cond (is_at (site_order site) other) (Some (empty_site served limits site)) (site_at sites other)
 
 -- ---- turns
 
--- only what is kept of that site changed, from this to that
-pub record Changes (wards news : List (SiteId × Held)) (site : SiteId) (before after : Held) : Type 0 where
-  pub was : ward_at wards site ≡ Some before
-  pub updates : (other : SiteId) → ward_at news other ≡ cond (is_at (site_order site) other) (Some after) (ward_at wards other)
+-- only the cells of that site changed, from the first to the second
+pub record Changes (sites news : List (SiteId × Site)) (site : SiteId) (before after : Site) : Type 0 where
+  pub was : site_at sites site ≡ Some before
+  pub updates : (other : SiteId) → site_at news other ≡ cond (is_at (site_order site) other) (Some after) (site_at sites other)
 
--- this is what the next turn in a cell tells, and where it is; it is made
-pub record Turns (wards news : List (SiteId × Held)) (cell : CellKey) (ask : Ask) (told : Told) (place : Place) : Type 0 where
-  pub before : Held
-  pub after : Held
-  pub changes : Changes wards news (site_of cell) before after
+-- the next turn in a cell, by caller 0: its answer, its place, and the cells of its site afterwards
+pub record Turns (sites news : List (SiteId × Site)) (cell : CellKey) (ask : Ask) (told : Told) (place : Place) : Type 0 where
+  pub before : Site
+  pub after : Site
+  pub changes : Changes sites news (site_of cell) before after
   pub turn : IsTurn before after cell ask told place
 
 -- no turn was made at that site, nor at another
-pub record Rests (wards news : List (SiteId × Held)) (site : SiteId) : Type 0 where
-  pub before : Held
-  pub after : Held
-  pub changes : Changes wards news site before after
+pub record Rests (sites news : List (SiteId × Site)) (site : SiteId) : Type 0 where
+  pub before : Site
+  pub after : Site
+  pub changes : Changes sites news site before after
   pub quiet : IsQuiet before after
 
--- this is what the next turn in a cell tells, and where it is; it is made and counted
+-- the next turn in a cell, by caller 0: its answer, its place, and the desk afterwards, which counted its entry
 pub record Took (before after : Seen) (cell : CellKey) (ask : Ask) (told : Told) (place : Place) : Type 0 where
   pub realm_stays : after.realm ≡ before.realm
   pub told_is : told ≡ (next_turn before.realm before.world cell ask).told
-  pub placed : place ≡ place_of before.world cell (next_turn before.realm before.world cell ask)
-  pub left : after.world ≡ entered before.world cell (next_turn before.realm before.world cell ask).entry
+  pub placed : place ≡ place_of cell (next_ticket before.world cell) (next_turn before.realm before.world cell ask)
+  pub left : after.world ≡ entered before.realm before.world cell (next_turn before.realm before.world cell ask).entry
   pub counted : after.made ≡ before.made + count_of (next_turn before.realm before.world cell ask).entry
 
--- the places of a turn that was made, or wasn't
+-- the place of a turn, where it was made
 abbrev pub places_of : Option Place → List Place
 places_of None = []
 places_of (Some place) = place ∷ []

@@ -1,3 +1,4 @@
+pub mod Deeds
 pub mod Desks
-pub mod Firsts
-pub mod Wards
+pub mod SiteCells
+pub mod Turns

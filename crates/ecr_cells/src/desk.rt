@@ -1,34 +1,36 @@
 // The desk of one caller in memory.
-ghost use Rattle.std.specs.Prelude.{◌≡◌, ◌∷◌, ◌+◌, ◌<◌, ◌≤◌, ◌^◌, [], None, Contains, IfOk, OnErr, if◌then◌else◌, vec_len, vec_capacity};
-ghost use Rattle.ecr_blob_upload.specs.Loads.{FitsCall};
-ghost use Rattle.ecr_model.specs.declared.journal.CellKey.TheVariants.{Directory, Repository};
+ghost use Rattle.std.specs.Prelude.{◌≡◌, ◌∷◌, ◌+◌, ◌<◌, ◌≤◌, ◌^◌, [], None, false, Contains, IfOk, OnErr, if◌then◌else◌, vec_len, vec_capacity};
+ghost use Rattle.ecr_blob_upload.specs.Loads.{FitsCall, given};
 ghost use Rattle.ecr_model.specs.declared.reply.Reply.TheVariants as replies;
+ghost use Rattle.ecr_model.specs.declared.reply.SiteReply.TheVariants as site_replies;
+ghost use Rattle.ecr_model.specs.Contents.{AreContents};
 ghost use Rattle.ecr_model.specs.Requests as scripts;
-ghost use Rattle.ecr_model.specs.Scripts as asks;
-ghost use Rattle.ecr_model.specs.Scripts.{fresh, listed, replied};
+ghost use Rattle.ecr_model.specs.Requests.{plain, reply_told, site_told};
+ghost use Rattle.ecr_model.specs.Scripts.{fresh};
 ghost use Rattle.ecr_desk.specs.Desks.{Ran};
+ghost use Rattle.ecr_cells.specs.Deeds.{ask_of, told_of, Fits, HasContents};
 ghost use Rattle.ecr_cells.specs.Desks.{seen_of, places_of, Took};
-ghost use Rattle.ecr_cells.specs.Firsts.{told_of};
+ghost use Rattle.ecr_cells.specs.SiteCells.{site_of};
 
-use crate::first::{First, refusal_of, registers};
-use crate::room::copy_of as copy_of_key;
-use crate::wards;
-use crate::wards::{Wards, copy_of, wards_of};
+use crate::cells;
+use crate::cells::{Cells, cells_of, copy_of};
+use crate::deed::{Deed, Done, first_deed, refusal_of};
+use crate::repository::{copy_of as copy_of_key, copy_of_name};
 use ecr_blob_upload::{Load, Outcome};
 use ecr_desk::{Answer, SiteAnswer, StillDesk};
 use ecr_model::{
-    Call, Limits, Listed, Mem, Moment, Name, Place, Refusal, Reply, RepoKey, SiteCall, SiteId,
+    Call, CellKey, Limits, Listed, Mem, Moment, Place, Refusal, Reply, RepoKey, SiteCall, SiteId,
     SiteReply,
 };
 use std::alloc::Global;
 use std::marker::Model;
 
-/// A registry in memory, for one caller. Contracts see what is kept of each site, and of that the journals.
+/// A registry in memory, for one caller. Contracts see the cells of each site, and of these the journals.
 #[derive(Drop)]
 pub struct SoloDesk {
     served: Listed<SiteId>,
     limits: Limits,
-    wards: Wards,
+    cells: Cells,
     made: u64,
 }
 
@@ -37,9 +39,9 @@ impl Model for SoloDesk {
 
     ghost Value = { Desk };
 
-    ghost view = { λ d. record { served = d.served; limits = d.limits; wards = d.wards.entries; made = d.made } };
+    ghost view = { λ d. record { served = d.served; limits = d.limits; sites = d.cells.entries; made = d.made } };
 
-    ghost invariant = { λ d. AreKept d.served d.limits d.wards.entries };
+    ghost invariant = { λ d. AreKept d.served d.limits d.cells.entries };
 }
 
 impl SoloDesk {
@@ -48,81 +50,69 @@ impl SoloDesk {
         ensures fresh { IfOk result (λ d. seen_of d ≡ record { realm = record { served = sites.items; limits = limits }; world = fresh; made = 0 }) }
     {
         let served = Listed::from_vec(sites);
-        let wards = wards_of(alloc, &served, limits)?;
+        let cells = cells_of(alloc, &served, limits)?;
         Ok(SoloDesk {
             served,
             limits,
-            wards,
+            cells,
             made: 0,
         })
     }
 
-    // The turn in the directory with which a call on a repository begins.
-    fn first_turn(&mut self, key: &RepoKey, call: &Call) -> Result<(First, Place), Mem>
-        requires served { Contains self.old.served key.now.site }
-        requires room { self.old.made + 1 < 2 ^ 64 }
-        ensures ran { IfOk result (λ t. Ran (seen_of self.old) (seen_of self.new) (scripts.first_turn key.now call.now) (told_of t.0) (t.1 ∷ [])) }
-        ensures made { self.new.made < self.old.made + 2 }
+    // Makes the next turn in a cell of a served site, and counts its entry. Without memory all is as before.
+    fn make(&mut self, alloc: Global, cell: CellKey, deed: Deed) -> Result<(Done, Place), Mem>
+        requires served { Contains self.old.served (site_of cell) }
+        requires fits { Fits deed }
+        ensures took { IfOk result (λ t. Took (seen_of self.old) (seen_of self.new) cell (ask_of deed) (told_of t.0) t.1) }
+        ensures contents { IfOk result (λ t. HasContents t.0) }
         ensures err { OnErr result (seen_of self.new ≡ seen_of self.old) }
     {
-        let site = copy_of(&key.site)?;
-        if registers(call) {
-            self.register(site, &key.name)
-        } else {
-            Ok(self.knows(site, &key.name))
+        // The count of entries fits.
+        if self.made == u64::MAX {
+            return Err(Mem);
         }
+        let (done, place) = cells::make(&mut self.cells, alloc, cell, deed)?;
+        self.made = counted(self.made, place.changed);
+        Ok((done, place))
     }
 
-    // What comes after it: where the name is registered, the turn in the repository.
-    fn then_cell(
+    // The turn in the directory with which a call on a repository begins.
+    fn first_turn(
         &mut self,
         alloc: Global,
         key: &RepoKey,
         call: &Call,
+    ) -> Result<(Done, Place), Mem>
+        requires served { Contains self.old.served key.now.site }
+        ensures ran { IfOk result (λ t. Ran (seen_of self.old) (seen_of self.new) (scripts.first_turn key.now call.now) (told_of t.0) (t.1 ∷ [])) }
+        ensures err { OnErr result (seen_of self.new ≡ seen_of self.old) }
+    {
+        let site = copy_of(&key.site)?;
+        let deed = first_deed(copy_of_name(&key.name)?, call);
+        let (done, place) = self.make(alloc, CellKey::Directory(site), deed)?;
+        Ok((done, place))
+    }
+
+    // The rest of the call: where the name is registered, the turn in the repository.
+    fn then_cell(
+        &mut self,
+        alloc: Global,
+        key: &RepoKey,
+        call: Call,
         load: Load,
         moment: Moment,
-        told: First,
+        told: Done,
     ) -> Result<(Outcome, Option<Place>), Mem>
         requires served { Contains self.old.served key.now.site }
-        requires fits { FitsCall call.now load }
-        requires room { self.old.made + 1 < 2 ^ 64 }
-        ensures ran { IfOk result (λ t. Ran (seen_of self.old) (seen_of self.new) (scripts.then_cell key.now call.now moment (told_of told)) t.0.reply (places_of t.1)) }
-        ensures blobs { IfOk result (λ t. t.0.blobs.items ≡ []) }
+        requires fits { FitsCall call load }
+        ensures ran { IfOk result (λ t. Ran (seen_of self.old) (seen_of self.new) (scripts.then_cell key.now call (given load) moment (told_of told)) (plain t.0.reply) (places_of t.1)) }
+        ensures contents { IfOk result (λ t. AreContents t.0.reply t.0.blobs.items) }
         ensures err { OnErr result (seen_of self.new ≡ seen_of self.old) }
     {
-        match refusal_of(told) {
+        match refusal_of(&told) {
             None => self.cell_turn(alloc, key, call, load, moment),
-            Some(refusal) => Ok(refused(alloc, refusal)),
+            Some(refusal) => Ok((refused(alloc, refusal), None)),
         }
-    }
-
-    // Answers a call on the site, by a turn in its directory.
-    fn answer(&self, alloc: Global, site: SiteId, call: SiteCall) -> Result<(SiteReply, Place), Mem>
-        requires { Contains self.now.served site }
-        ensures { IfOk result (λ t. Took (seen_of self.now) (seen_of self.now) (Directory site) (asks.site_call call) (listed t.0) t.1) }
-    {
-        wards::answer(&self.wards, alloc, site, call)
-    }
-
-    // Whether the name is registered, by a turn in the site's directory.
-    fn knows(&self, site: SiteId, name: &Name) -> (First, Place)
-        requires { Contains self.now.served site }
-        ensures { Took (seen_of self.now) (seen_of self.now) (Directory site) (asks.knows name.now) (told_of result.0) result.1 }
-    {
-        let (known, place) = wards::knows(&self.wards, site, name);
-        (First::Known(known), place)
-    }
-
-    // Registers the name, by a turn in the site's directory.
-    fn register(&mut self, site: SiteId, name: &Name) -> Result<(First, Place), Mem>
-        requires served { Contains self.old.served site }
-        requires room { self.old.made + 1 < 2 ^ 64 }
-        ensures took { IfOk result (λ t. Took (seen_of self.old) (seen_of self.new) (Directory site) (asks.register name.now) (told_of t.0) t.1) }
-        ensures err { OnErr result (seen_of self.new ≡ seen_of self.old) }
-    {
-        let (registered, place) = wards::register(&mut self.wards, site, name)?;
-        self.made = counted(self.made, place.changed);
-        Ok((First::Registered(registered), place))
     }
 
     // The turn in the repository.
@@ -130,40 +120,21 @@ impl SoloDesk {
         &mut self,
         alloc: Global,
         key: &RepoKey,
-        call: &Call,
+        call: Call,
         load: Load,
         moment: Moment,
     ) -> Result<(Outcome, Option<Place>), Mem>
         requires served { Contains self.old.served key.now.site }
-        requires fits { FitsCall call.now load }
-        requires room { self.old.made + 1 < 2 ^ 64 }
-        ensures ran { IfOk result (λ t. Ran (seen_of self.old) (seen_of self.new) (scripts.cell_turn key.now call.now moment) t.0.reply (places_of t.1)) }
-        ensures blobs { IfOk result (λ t. t.0.blobs.items ≡ []) }
+        requires fits { FitsCall call load }
+        ensures ran { IfOk result (λ t. Ran (seen_of self.old) (seen_of self.new) (scripts.cell_turn key.now call (given load) moment) (plain t.0.reply) (places_of t.1)) }
+        ensures contents { IfOk result (λ t. AreContents t.0.reply t.0.blobs.items) }
         ensures err { OnErr result (seen_of self.new ≡ seen_of self.old) }
     {
-        let (outcome, place) = self.change(alloc, copy_of_key(key)?, call, load, moment)?;
+        let copy = copy_of_key(key)?;
+        let deed = Deed::OnRepository { call, load, moment };
+        let (done, place) = self.make(alloc, CellKey::Repository(copy), deed)?;
+        let outcome = outcome_of(alloc, done);
         Ok((outcome, Some(place)))
-    }
-
-    // Makes a call on a repository, by a turn in it.
-    fn change(
-        &mut self,
-        alloc: Global,
-        key: RepoKey,
-        call: &Call,
-        load: Load,
-        moment: Moment,
-    ) -> Result<(Outcome, Place), Mem>
-        requires served { Contains self.old.served key.site }
-        requires fits { FitsCall call.now load }
-        requires room { self.old.made + 1 < 2 ^ 64 }
-        ensures took { IfOk result (λ t. Took (seen_of self.old) (seen_of self.new) (Repository key) (asks.call moment call.now) (replied t.0.reply) t.1) }
-        ensures blobs { IfOk result (λ t. t.0.blobs.items ≡ []) }
-        ensures err { OnErr result (seen_of self.new ≡ seen_of self.old) }
-    {
-        let (outcome, place) = wards::change(&mut self.wards, alloc, key, call, load, moment)?;
-        self.made = counted(self.made, place.changed);
-        Ok((outcome, place))
     }
 }
 
@@ -176,7 +147,9 @@ impl StillDesk for SoloDesk {
         site: &SiteId,
         call: SiteCall,
     ) -> Result<SiteAnswer, Mem> {
-        let (reply, place) = self.answer(alloc, copy_of(site)?, call)?;
+        let copy = copy_of(site)?;
+        let (done, place) = self.make(alloc, CellKey::Directory(copy), Deed::OnSite(call))?;
+        let reply = reply_of(alloc, done);
         Ok(SiteAnswer { reply, place })
     }
 
@@ -188,14 +161,10 @@ impl StillDesk for SoloDesk {
         load: Load,
         moment: Moment,
     ) -> Result<Answer, Mem> {
-        // The count of a call's entries fits.
-        if self.made > u64::MAX - 2 {
-            return Err(Mem);
-        }
         // No memory is taken for the answer once a turn was made.
         let places = Vec::with_capacity(alloc, 2)?;
-        let (told, first) = self.first_turn(key, &call)?;
-        let (outcome, second) = self.then_cell(alloc, key, &call, load, moment, told)?;
+        let (told, first) = self.first_turn(alloc, key, &call)?;
+        let (outcome, second) = self.then_cell(alloc, key, call, load, moment, told)?;
         Ok(answer_of(outcome, places, first, second))
     }
 
@@ -216,18 +185,54 @@ fn counted(made: u64, changed: bool) -> u64
     if changed { made + 1 } else { made }
 }
 
-// There was no turn in the repository, for that cause.
-fn refused(alloc: Global, refusal: Refusal) -> (Outcome, Option<Place>)
-    ensures reply { result.0.reply ≡ replies.Refused refusal }
-    ensures blobs { result.0.blobs.items ≡ [] }
-    ensures places { places_of result.1 ≡ [] }
+// The reply that the directory told.
+fn reply_of(alloc: Global, done: Done) -> SiteReply
+    ensures { result ≡ site_told (told_of done) }
 {
-    let outcome = Outcome {
+    match done {
+        Done::Listed(reply) => reply,
+        Done::Known(_) => no_names(alloc),
+        Done::Registered(_) => no_names(alloc),
+        Done::Replied(_) => no_names(alloc),
+        Done::Nothing => no_names(alloc),
+    }
+}
+
+// No name.
+fn no_names(alloc: Global) -> SiteReply
+    ensures { result ≡ site_replies.Names [] false }
+{
+    SiteReply::Names {
+        names: Listed::from_vec(Vec::new(alloc)),
+        more: false,
+    }
+}
+
+// The reply that the repository told, with its content.
+fn outcome_of(alloc: Global, done: Done) -> Outcome
+    requires { HasContents done }
+    ensures reply { plain result.reply ≡ reply_told (told_of done) }
+    ensures contents { AreContents result.reply result.blobs.items }
+{
+    match done {
+        Done::Replied(outcome) => outcome,
+        Done::Known(_) => refused(alloc, Refusal::RepositoryNotFound),
+        Done::Registered(_) => refused(alloc, Refusal::RepositoryNotFound),
+        Done::Listed(_) => refused(alloc, Refusal::RepositoryNotFound),
+        Done::Nothing => refused(alloc, Refusal::RepositoryNotFound),
+    }
+}
+
+// The refusal of a call that had no turn in the repository.
+fn refused(alloc: Global, refusal: Refusal) -> Outcome
+    ensures reply { result.reply ≡ replies.Refused refusal }
+    ensures contents { AreContents result.reply result.blobs.items }
+{
+    Outcome {
         reply: Reply::Refused(refusal),
         blobs: Vec::new(alloc),
         changed: false,
-    };
-    (outcome, None)
+    }
 }
 
 // The answer with its one or two places.

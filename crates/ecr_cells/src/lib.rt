@@ -1,18 +1,20 @@
 //! The desk of one caller in memory.
 //!
 //! [`SoloDesk`] keeps each site's directory and its repositories, and makes the turns of a call one after another: the
-//! ticket of each is the number of entries of its cell. What a call on a directory or a repository does isn't decided here.
+//! ticket of each is the number of entries of its cell. Every turn goes one way: the desk counts its entry, its site's
+//! cells are looked up, the site's directory or one of its repositories is, and that state makes it. What a call on a
+//! directory or a repository does isn't decided here.
 #![tactic(auto)]
 
+mod cells;
+mod deed;
 mod desk;
 mod directory;
-mod first;
 mod laws;
-mod room;
+mod repository;
+mod site_cells;
 #[cfg(test)]
 mod tests;
-mod ward;
-mod wards;
 
 pub use desk::SoloDesk;
 pub use laws::desks_cross_threads;

@@ -2,7 +2,7 @@ ghost use Rattle.std.specs.Prelude.{Contains, IfOk, IfSome};
 ghost use Rattle.ecr_cells.specs.Desks.{seen_of};
 
 use crate::SoloDesk;
-use crate::wards::copy_of;
+use crate::cells::copy_of;
 use ecr_blob_upload::Load;
 use ecr_desk::{Answer, StillDesk};
 use ecr_model::{

@@ -1,13 +1,12 @@
 -- What scripts come to on a desk: one and then another, and those of calls on a repository.
-use Rattle.std.proofs.Common.{◌≡◌, ◌≤◌, ◌+◌, ℕ, List, [], ◌++◌, refl, sym, ap, ◌∙◌, arith}
+use Rattle.std.proofs.Common.{◌≡◌, ◌≤◌, ◌+◌, ℕ, List, [], ◌++◌, Option, refl, sym, ap, ◌∙◌, arith}
 use Rattle.ecr_model.specs.declared.journal.Place.{Place}
 use Rattle.ecr_model.specs.ScriptLaws.{RunsThen}
 use Rattle.ecr_model.specs.Scripts.{Told, Script, ends, then_do, run, run_to}
 use Rattle.ecr_model.proofs.ScriptLemmas.{run-then_do, run_to-all, run_to-first, run_to-none, run_to-then}
 use Rattle.ecr_model.specs.declared.call.Call.{Call}
 use Rattle.ecr_model.specs.declared.names.RepoKey.{RepoKey}
-use Rattle.ecr_model.specs.declared.reply.Reply.{Reply}
-use Rattle.ecr_model.specs.Requests.{first_turn, then_cell, call_script}
+use Rattle.ecr_model.specs.Requests.{Decided, first_turn, then_cell, call_script}
 use Rattle.ecr_desk.specs.Desks.{Seen, run_on, entries_of, first_entries, Ran, Stopped}
 
 -- a script without a turn leaves all as it was
@@ -16,7 +15,7 @@ unfolding run
 Ran-ends seen answer = record { realm_stays = refl; left = refl; counted = omega arith; placed = refl; answered = refl }
 
 -- what stood on the desk in between is what the first script left
-same_run : {A B : Type 0} (before mid : Seen) (script : Script A) (next : A → Script B) (a : A) (places : List Place)
+pub same_run : {A B : Type 0} (before mid : Seen) (script : Script A) (next : A → Script B) (a : A) (places : List Place)
     → Ran before mid script a places
     → run_on mid (next a) ≡ run before.realm (run_on before script).world (next (run_on before script).answer)
 same_run before mid script next a places ran =
@@ -40,7 +39,7 @@ Ran-then before mid after script next a b first second one other =
     }
 
 -- the first one stopped
-pub Stopped-first : {A B : Type 0} (before after : Seen) (script : Script A) (next : A → Script B) (most : ℕ)
+unfoldable pub Stopped-first : {A B : Type 0} (before after : Seen) (script : Script A) (next : A → Script B) (most : ℕ)
     → most ≤ entries_of before script → Stopped before after script most
     → Stopped before after (then_do script next) (entries_of before (then_do script next))
 Stopped-first before after script next most within stopped =
@@ -54,7 +53,7 @@ Stopped-first before after script next most within stopped =
     }
 
 -- the first one ran, and the second one stopped
-pub Stopped-then : {A B : Type 0} (before mid after : Seen) (script : Script A) (next : A → Script B) (a : A) (first : List Place) (most : ℕ)
+unfoldable pub Stopped-then : {A B : Type 0} (before mid after : Seen) (script : Script A) (next : A → Script B) (a : A) (first : List Place) (most : ℕ)
     → Ran before mid script a first → most ≤ entries_of mid (next a) → Stopped mid after (next a) most
     → Stopped before after (then_do script next) (entries_of before (then_do script next))
 Stopped-then before mid after script next a first most one within stopped =
@@ -83,7 +82,7 @@ Stopped-none before after script most same = record {
 }
 
 -- a whole run that wasn't told is one that stopped at its end
-pub Stopped-whole : {A : Type 0} (before after : Seen) (script : Script A) (a : A) (places : List Place)
+unfoldable pub Stopped-whole : {A : Type 0} (before after : Seen) (script : Script A) (a : A) (places : List Place)
     → Ran before after script a places → Stopped before after script (entries_of before script)
 Stopped-whole before after script a places ran = record {
   entries = (run_on before script).entries;
@@ -96,18 +95,19 @@ Stopped-whole before after script a places ran = record {
 -- ---- a call on a repository
 
 -- the first turn of a call adds no more than the call
-pub first_entries-le : (seen : Seen) (key : RepoKey) (call : Call) (moment : ℕ) → first_entries seen key call ≤ entries_of seen (call_script key call moment)
+pub first_entries-le : (seen : Seen) (key : RepoKey) (call : Call) (given : Option (List ℕ)) (moment : ℕ)
+    → first_entries seen key call ≤ entries_of seen (call_script key call given moment)
 unfolding call_script
-first_entries-le seen key call moment =
-    let both = run-then_do seen.realm seen.world (first_turn key call) (then_cell key call moment) in
+first_entries-le seen key call given moment =
+    let both = run-then_do seen.realm seen.world (first_turn key call) (then_cell key call given moment) in
     omega (arith, both.entries_are)
 
 -- the turn in the directory was made, and no other
-pub Stopped-call : (before mid after : Seen) (key : RepoKey) (c : Call) (moment : ℕ) (told : Told) (places : List Place)
+pub Stopped-call : (before mid after : Seen) (key : RepoKey) (c : Call) (given : Option (List ℕ)) (moment : ℕ) (told : Told) (places : List Place)
     → Ran before mid (first_turn key c) told places → after ≡ mid
-    → Stopped before after (call_script key c moment) (first_entries before key c)
+    → Stopped before after (call_script key c given moment) (first_entries before key c)
 unfolding call_script
-Stopped-call before mid after key c moment told places ran same =
+Stopped-call before mid after key c given moment told places ran same =
     let n : ℕ = first_entries before key c in
     record {
       entries = n;
@@ -115,14 +115,14 @@ Stopped-call before mid after key c moment told places ran same =
       realm_stays = ap (λ s. s.realm) same ∙ ran.realm_stays;
       left = ap (λ s. s.world) same ∙ ran.left
           ∙ sym (run_to-all n before.realm before.world (first_turn key c) (omega arith))
-          ∙ sym (run_to-first n before.realm before.world (first_turn key c) (then_cell key c moment) (omega arith));
+          ∙ sym (run_to-first n before.realm before.world (first_turn key c) (then_cell key c given moment) (omega arith));
       counted = ap (λ s. s.made) same ∙ ran.counted;
     }
 
 -- both turns were made
-pub Ran-call : (before mid after : Seen) (key : RepoKey) (c : Call) (moment : ℕ) (told : Told) (reply : Reply) (first second : List Place)
-    → Ran before mid (first_turn key c) told first → Ran mid after (then_cell key c moment told) reply second
-    → Ran before after (call_script key c moment) reply (first ++ second)
+pub Ran-call : (before mid after : Seen) (key : RepoKey) (c : Call) (given : Option (List ℕ)) (moment : ℕ) (told : Told) (decided : Decided) (first second : List Place)
+    → Ran before mid (first_turn key c) told first → Ran mid after (then_cell key c given moment told) decided second
+    → Ran before after (call_script key c given moment) decided (first ++ second)
 unfolding call_script
-Ran-call before mid after key c moment told reply first second one other =
-    Ran-then before mid after (first_turn key c) (then_cell key c moment) told reply first second one other
+Ran-call before mid after key c given moment told decided first second one other =
+    Ran-then before mid after (first_turn key c) (then_cell key c given moment) told decided first second one other

@@ -12,15 +12,15 @@ pub record Seen : Type 0 where
   pub world : World
   pub made : ℕ
 
--- what a script comes to on a desk
+-- the result of a script on a desk
 abbrev pub run_on : {A : Type 0} → Seen → Script A → Run A
 run_on seen script = run seen.realm seen.world script
 
--- how many entries a script adds
+-- the number of entries that a script adds
 abbrev pub entries_of : {A : Type 0} → Seen → Script A → ℕ
 entries_of seen script = (run_on seen script).entries
 
--- how many entries the first turn of a call on a repository adds: the name's, or none
+-- the number of entries that the first turn of a call on a repository adds: the name's, or none
 abbrev pub first_entries : Seen → RepoKey → Call → ℕ
 first_entries seen key call = entries_of seen (first_turn key call)
 

@@ -1,8 +1,10 @@
 // The desk of one caller.
-ghost use Rattle.std.specs.Prelude.{◌≡◌, ◌∷◌, [], None, Contains, IfOk, OnErr};
-ghost use Rattle.ecr_blob_upload.specs.Loads.{FitsCall};
+ghost use Rattle.std.specs.Prelude.{◌≡◌, ◌∷◌, [], Contains, IfOk, OnErr};
+ghost use Rattle.ecr_blob_upload.specs.Loads.{FitsCall, given};
+ghost use Rattle.ecr_model.specs.Contents.{AreContents};
 ghost use Rattle.ecr_model.specs.Requests.{call_script, site_script};
-ghost use Rattle.ecr_desk.specs.Desks.{Seen, Ran, Stopped, entries_of, first_entries};
+ghost use Rattle.ecr_model.specs.Soundness.{AreSound};
+ghost use Rattle.ecr_desk.specs.Desks.{Seen, Ran, Stopped, first_entries};
 
 use crate::{Answer, SiteAnswer};
 use ecr_blob_upload::Load;
@@ -18,11 +20,11 @@ pub trait StillDesk {
     /// The sites and limits, the journals, and the number of entries that were added.
     ghost seen: { Self → Seen };
 
-    /// A call on the directory of a served site.
+    /// A call on the directory of a served site. Without memory all is as before.
     fn registry(&mut self, alloc: Global, site: &SiteId, call: SiteCall) -> Result<SiteAnswer, Mem>
         requires served { Contains (seen self.old).realm.served site.now }
         ensures ran { IfOk result (λ a. Ran (seen self.old) (seen self.new) (site_script site.now call) a.reply (a.place ∷ [])) }
-        ensures stopped { OnErr result (Stopped (seen self.old) (seen self.new) (site_script site.now call) (entries_of (seen self.old) (site_script site.now call))) };
+        ensures err { OnErr result (seen self.new ≡ seen self.old) };
 
     /// A call on a repository of a served site, with the content that comes with it.
     ///
@@ -38,9 +40,9 @@ pub trait StillDesk {
     ) -> Result<Answer, Mem>
         requires served { Contains (seen self.old).realm.served key.now.site }
         requires fits { FitsCall call load }
-        ensures ran { IfOk result (λ a. Ran (seen self.old) (seen self.new) (call_script key.now call moment) a.reply a.places.items) }
-        ensures stopped { OnErr result (Stopped (seen self.old) (seen self.new) (call_script key.now call moment) (first_entries (seen self.old) key.now call)) }
-        ensures plain { IfOk result (λ a. (a.blobs.items ≡ []) × (a.sealed ≡ None)) };
+        ensures ran { IfOk result (λ a. Ran (seen self.old) (seen self.new) (call_script key.now call (given load) moment) (record { reply = a.reply; sealed = a.sealed }) a.places.items) }
+        ensures stopped { OnErr result (Stopped (seen self.old) (seen self.new) (call_script key.now call (given load) moment) (first_entries (seen self.old) key.now call)) }
+        ensures contents { IfOk result (λ a. AreContents a.reply a.blobs.items) };
 
     /// How many entries were added since the desk was made, by all calls on it. It takes no memory.
     fn made(&self) -> u64
@@ -48,5 +50,8 @@ pub trait StillDesk {
 
     /// The served sites, in the order in which the desk was given them. It takes no memory.
     fn served(&self) -> &[SiteId]
-        ensures sites { result.now ≡ (seen self.now).realm.served };
+        ensures sites { result.now ≡ (seen self.now).realm.served }
+
+        // Every desk's journals are sound.
+        ensures sound { AreSound (seen self.now).realm (seen self.now).world.journals };
 }

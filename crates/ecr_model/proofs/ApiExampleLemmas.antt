@@ -7,7 +7,8 @@ use Rattle.hex.specs.Hex.{encode_with}
 use Rattle.serde_json.proofs.OnLiterals.{serde_json_on_literals}
 use Rattle.ecr_model.specs.Actions.{reading, action_of, members_of, typed_reading, asked_by}
 use Rattle.ecr_model.specs.ApiExample.{BodiesAreRead, RepliesAreWritten}
-use Rattle.ecr_model.specs.Members.{document, are_typed, first_bad, place_of, is_decimal, digits_value, site_of}
+use Rattle.ecr_model.specs.Documents.{document}
+use Rattle.ecr_model.specs.Members.{are_typed, first_bad, place_of, is_decimal, digits_value, site_of}
 use Rattle.ecr_model.specs.Names.{is_name}
 use Rattle.ecr_model.specs.Refusals.{parameter_text, type_text, message_text, refusal_data, refusal_body}
 use Rattle.ecr_model.specs.Rendered.{json, reply_data, repository_data}

@@ -1,8 +1,9 @@
 -- Why a call is answered that there is no such repository.
-use Rattle.std.proofs.Common.{◌≡◌, ◌⊎◌, inl, inr, ℕ, Bool, true, false, Option, None, Some, is_some, not, ◌&&◌, [], ◌∷◌, if◌then◌else◌, refl}
+use Rattle.std.proofs.Common.{◌≡◌, ◌⊎◌, inl, inr, ℕ, Bool, true, false, Option, None, Some, is_some, not, ◌&&◌, List, [], ◌∷◌, if◌then◌else◌, refl}
 use Rattle.std.specs.Option.{option_map_or}
 use Rattle.ecr_model.specs.declared.call.Call.{Call}
 use Rattle.ecr_model.specs.declared.call.Call.TheVariants.{Create, Delete, Describe, SetMutability}
+use Rattle.ecr_model.specs.declared.directory.Directory as kept
 use Rattle.ecr_model.specs.declared.directory.Registered.{Registered}
 use Rattle.ecr_model.specs.declared.directory.Registered.TheVariants.{New, Known, Full}
 use Rattle.ecr_model.specs.declared.journal.CellKey.TheVariants.{Directory, Repository}
@@ -14,9 +15,8 @@ use Rattle.ecr_model.specs.declared.repository.Mutability.{Mutability}
 use Rattle.ecr_model.specs.declared.repository.Presence.{Presence}
 use Rattle.ecr_model.specs.declared.repository.Repository.{Repository as State}
 use Rattle.ecr_model.specs.Directories as directories
-use Rattle.ecr_model.specs.Journals.{past}
-use Rattle.ecr_model.specs.Requests.{call_script, first_turn, then_cell, cell_turn}
-use Rattle.ecr_model.specs.Scripts.{ends, Realm, World, run, then_do, turn_at, entered, known, plain_turn, registers}
+use Rattle.ecr_model.specs.Requests.{plain, beside_of, call_script, first_turn, then_cell, cell_turn}
+use Rattle.ecr_model.specs.Scripts.{ends, Realm, World, frame_of, next_ticket, run, then_do, turn_at, entered, known, registers}
 use Rattle.ecr_model.specs.ScriptLaws.{NotFoundHasItsCause}
 use Rattle.ecr_model.specs.Steps as steps
 
@@ -61,50 +61,49 @@ absent key s turn limits (SetMutability mutability) is =
 
 -- the repository as at the next ticket
 abbrev now : Realm → World → RepoKey → State
-now realm world key = steps.repository_at key realm.limits (world.journals (Repository key)) (past (world.journals (Repository key)))
+now realm world key = steps.repository_at key realm.limits (world.journals (Repository key)) (next_ticket world (Repository key))
 
-in_cell : (realm : Realm) (world : World) (key : RepoKey) (call : Call) (moment : ℕ)
-    → (run realm world (cell_turn key call moment)).answer ≡ Refused RepositoryNotFound → (now realm world key).present ≡ None
+in_cell : (realm : Realm) (world : World) (key : RepoKey) (call : Call) (given : Option (List ℕ)) (moment : ℕ)
+    → (run realm world (cell_turn key call given moment)).answer.reply ≡ Refused RepositoryNotFound → (now realm world key).present ≡ None
 unfolding run turn_at
-in_cell realm world key call moment is =
-    absent key (now realm world key) (plain_turn (past (world.journals (Repository key))) moment) realm.limits call is
+in_cell realm world key call given moment is =
+    absent key (now realm world key) (steps.turn_of (next_ticket world (Repository key)) None (beside_of given moment)) realm.limits call is
 
 -- after the directory said whether it is registered
-after_known : (realm : Realm) (world : World) (key : RepoKey) (call : Call) (moment : ℕ) (b : Bool)
-    → (run realm world (then_cell key call moment (known b))).answer ≡ Refused RepositoryNotFound
+after_known : (realm : Realm) (world : World) (key : RepoKey) (call : Call) (given : Option (List ℕ)) (moment : ℕ) (b : Bool)
+    → (run realm world (then_cell key call given moment (known b))).answer.reply ≡ Refused RepositoryNotFound
     → (b ≡ false) ⊎ ((now realm world key).present ≡ None)
 unfolding then_cell
-after_known realm world key call moment true is = inr (in_cell realm world key call moment is)
-after_known realm world key call moment false is = inl refl
+after_known realm world key call given moment true is = inr (in_cell realm world key call given moment is)
+after_known realm world key call given moment false is = inl refl
 
 -- after the directory registered it, a creation isn't answered so
-ends_other : (realm : Realm) (world : World) (limit count : ℕ) → (run realm world (ends (Refused (LimitExceeded limit count)))).answer ≡ Refused RepositoryNotFound → ⊥
+ends_other : (realm : Realm) (world : World) (limit count : ℕ) → (run realm world (ends (plain (Refused (LimitExceeded limit count))))).answer.reply ≡ Refused RepositoryNotFound → ⊥
 unfolding run
 ends_other realm world limit count is = absurd (cc)
 
-in_creation : (realm : Realm) (world : World) (key : RepoKey) (mutability : Mutability) (moment : ℕ)
-    → (run realm world (cell_turn key (Create mutability) moment)).answer ≡ Refused RepositoryNotFound → ⊥
+in_creation : (realm : Realm) (world : World) (key : RepoKey) (mutability : Mutability) (given : Option (List ℕ)) (moment : ℕ)
+    → (run realm world (cell_turn key (Create mutability) given moment)).answer.reply ≡ Refused RepositoryNotFound → ⊥
 unfolding run turn_at steps.step
-in_creation realm world key mutability moment is =
+in_creation realm world key mutability given moment is =
     let s : State = now realm world key in
     creates_other (is_some s.present) (record s { present = Some (record { created = moment; mutability = mutability }) }) moment mutability is
 
-after_registered : (realm : Realm) (world : World) (key : RepoKey) (mutability : Mutability) (moment : ℕ) (r : Registered)
-    → (run realm world (then_cell key (Create mutability) moment (registers key.name r).told)).answer ≡ Refused RepositoryNotFound → ⊥
+after_registered : (realm : Realm) (world : World) (key : RepoKey) (mutability : Mutability) (given : Option (List ℕ)) (moment : ℕ) (r : Registered)
+    → (run realm world (then_cell key (Create mutability) given moment (registers key.name r).told)).answer.reply ≡ Refused RepositoryNotFound → ⊥
 unfolding then_cell
-after_registered realm world key mutability moment New is = in_creation realm world key mutability moment is
-after_registered realm world key mutability moment Known is = in_creation realm world key mutability moment is
-after_registered realm world key mutability moment (Full limit count) is = ends_other realm world limit count is
+after_registered realm world key mutability given moment New is = in_creation realm world key mutability given moment is
+after_registered realm world key mutability given moment Known is = in_creation realm world key mutability given moment is
+after_registered realm world key mutability given moment (Full limit count) is = ends_other realm world limit count is
+
+-- the directory as at its next ticket
+abbrev names_now : Realm → World → RepoKey → kept.Directory
+names_now realm world key = directories.directory_at (frame_of realm key.site) (world.journals (Directory key.site)) (next_ticket world (Directory key.site))
 
 pub not_found_has_its_cause : NotFoundHasItsCause
-unfolding call_script first_turn then_do run turn_at
-not_found_has_its_cause realm world key (Create mutability) moment is =
-    let d = directories.directory_at realm.limits (world.journals (Directory key.site)) (past (world.journals (Directory key.site))) in
-    let r = directories.registration realm.limits d key.name in
-    absurd (after_registered realm (entered world (Directory key.site) (registers key.name r).entry) key mutability moment r is)
-not_found_has_its_cause realm world key (Delete force) moment is =
-    after_known realm world key (Delete force) moment (directories.is_registered key.name (directories.directory_at realm.limits (world.journals (Directory key.site)) (past (world.journals (Directory key.site))))) is
-not_found_has_its_cause realm world key Describe moment is =
-    after_known realm world key Describe moment (directories.is_registered key.name (directories.directory_at realm.limits (world.journals (Directory key.site)) (past (world.journals (Directory key.site))))) is
-not_found_has_its_cause realm world key (SetMutability mutability) moment is =
-    after_known realm world key (SetMutability mutability) moment (directories.is_registered key.name (directories.directory_at realm.limits (world.journals (Directory key.site)) (past (world.journals (Directory key.site))))) is
+unfolding call_script first_turn then_do run turn_at entered
+not_found_has_its_cause realm world key (Create mutability) given moment is =
+    let r = directories.registration (frame_of realm key.site) (names_now realm world key) key.name in
+    absurd (after_registered realm (entered realm world (Directory key.site) (registers key.name r).entry) key mutability given moment r is)
+not_found_has_its_cause realm world key call given moment is =
+    after_known realm world key call given moment (directories.is_registered key.name (names_now realm world key)) is

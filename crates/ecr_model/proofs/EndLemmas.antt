@@ -7,8 +7,9 @@ use Rattle.ecr_model.specs.declared.outcome.End.TheVariants as ends
 use Rattle.ecr_model.specs.Stream.{Lack, bad, too_long, open_, Front, whole, short, Point, past_blank, Ending, Tail, ended, closed, truncated, bad_at, long_at, more, ending_of, tail_of, StopsBy, Reads}
 use Rattle.ecr_model.specs.StreamLaws.{is_last}
 use Rattle.ecr_model.specs.Scripts.{World}
-use Rattle.ecr_model.specs.Sessions.{Ends, Outside, Account, Setting, Serviced, Completed}
+use Rattle.ecr_model.specs.Sessions.{Ends, Outside, Account, Setting, Completed, requests_of, sent_to, last_words}
 use Rattle.ecr_model.specs.SessionLaws.{output_of, IsOfInput, IsOfRead, OutputIsDetermined, TheInputDecidesTheEnd}
+use Rattle.ecr_model.proofs.SessionLemmas.{AreServed-same}
 use Rattle.ecr_model.proofs.StreamLemmas.{Reads-unique, Reads-last}
 
 -- ---- one end for one ending
@@ -34,14 +35,18 @@ end_is ends.WriteFault ending size d x = absurd d
 end_is ends.Mem ending size d x = absurd d
 
 pub output_is_determined : OutputIsDetermined
-output_is_determined set account read over requests others tail last reads again =
-    let same : (requests ≡ others) × (tail ≡ last) = Reads-unique read over requests others tail last reads again in (
+output_is_determined first last other exchanges others read over tail ending served again alike reads too =
+    let same : (requests_of exchanges ≡ requests_of others) × (tail ≡ ending) =
+    Reads-unique read over (requests_of exchanges) (requests_of others) tail ending reads too in
+    let bytes : (sent_to exchanges ≡ sent_to others) × (last.world ≡ other.world) =
+    AreServed-same first first last other exchanges others refl refl served again same.0 alike.moments alike.cuts in (
       same.0,
       same.1,
-      cc,
-      λ end other d e x y.
+      ap (λ l. l ++ last_words tail) bytes.0 ∙ ap (λ t. output_of others t) same.1,
+      bytes.1,
+      λ end another d e x y.
           end_is end tail.ending (length read) d x ∙ ap (λ (t : Tail). end_like t.ending) same.1
-          ∙ sym (end_is other last.ending (length read) e y),
+          ∙ sym (end_is another ending.ending (length read) e y),
     )
 
 -- ---- the endings that only the end of the input gives
@@ -128,21 +133,24 @@ Ends_any_size ends.Spent ending size other d x = absurd d
 -- the session's reading is the input's
 pub Completed-reads_input : (set : Setting) (before after : Outside) (account : Account) (left : World) (end : End) (input : List ℕ)
     → before.left ≡ Some input → (done : Completed set before after account left end) → IsOfInput end
-    → Reads input true done.requests done.tail
+    → Reads input true (requests_of done.exchanges) done.tail
 Completed-reads_input set before after account left end input told done d =
     let front : (rest : List ℕ) × (after.left ≡ Some rest) × (input ≡ done.read ++ rest) =
     Consumes-front before.left after.left input done.read told done.consumed in
-    reads_input input done.read front.0 done.over after.left done.requests done.tail front.1 front.2 done.at_end done.reads
+    reads_input input done.read front.0 done.over after.left (requests_of done.exchanges) done.tail front.1 front.2 done.at_end done.reads
     (end_shows end done.tail.ending (length done.read) d done.ends)
 
 pub the_input_decides_the_end : TheInputDecidesTheEnd
 the_input_decides_the_end set before after account left end input requests tail told done d reads =
-    let mine : Reads input true done.requests done.tail = Completed-reads_input set before after account left end input told done d in
-    let same : (done.requests ≡ requests) × (done.tail ≡ tail) =
-    Reads-unique input true done.requests requests done.tail tail mine reads in (
+    let mine : Reads input true (requests_of done.exchanges) done.tail = Completed-reads_input set before after account left end input told done d in
+    let same : (requests_of done.exchanges ≡ requests) × (done.tail ≡ tail) =
+    Reads-unique input true (requests_of done.exchanges) requests done.tail tail mine reads in (
       subst (λ (t : Tail). Ends end t.ending (length input)) same.1
           (Ends_any_size end done.tail.ending (length done.read) (length input) d done.ends),
-      subst (λ (rs : List Request). Serviced set before after rs account left) same.0 done.serviced,
-      subst (λ (t : Tail). Appends before.held after.held (output_of set account requests t)) same.1
-          (subst (λ (rs : List Request). Appends before.held after.held (output_of set account rs done.tail)) same.0 done.sent),
+      (
+        done.exchanges,
+        same.0,
+        done.serviced,
+        subst (λ (t : Tail). Appends before.held after.held (output_of done.exchanges t)) same.1 done.sent,
+      ),
     )

@@ -1,5 +1,5 @@
 -- The first request of the example, read and answered.
-use Rattle.std.proofs.Common.{◌≡◌, ℕ, zero, suc, ◌<◌, ◌⊎◌, Bool, true, false, List, [], ◌∷◌, ◌++◌, take, drop, Some, None, codes, append-nil, if◌then◌else◌, refl, sym, ap, ◌∙◌, ⊎_elim, subst, arith}
+use Rattle.std.proofs.Common.{◌≡◌, inl, ℕ, zero, suc, ◌<◌, ◌⊎◌, Bool, true, false, List, [], ◌∷◌, ◌++◌, take, drop, Some, None, codes, append-nil, if◌then◌else◌, refl, sym, ap, ◌∙◌, ⊎_elim, subst, arith}
 use Rattle.std.specs.Str.Lossy.{utf8_valid_len}
 use Rattle.std.specs.Str.{is_utf8, chars, IsAscii}
 use Rattle.std.specs.Fmt.{digits}
@@ -12,18 +12,19 @@ use Rattle.ecr_model.specs.Framing.{max_head, ends_empty, IsEnd, Parses, framing
 use Rattle.ecr_model.specs.declared.http.Head.{Head}
 use Rattle.ecr_model.specs.declared.http.Framing.TheVariants.{Sized}
 use Rattle.ecr_model.specs.Stream.{complete, IsBody, whole, short, open_, head_part, IsFront, Point, Stops}
-use Rattle.ecr_model.specs.Sessions.{outcome_of, written, replies}
+use Rattle.ecr_model.specs.Sessions.{outcome_of, written, left_by, IsServed}
 use Rattle.ecr_model.specs.Hosts.{site_for, named_site, without_port}
 use Rattle.ecr_model.specs.Actions.{asks, cell, reading, action_of, members_of, typed_reading, asked_by}
 use Rattle.ecr_model.specs.Directories.{after_line, first_directory, registration}
 use Rattle.ecr_model.specs.Journals.{replay}
-use Rattle.ecr_model.specs.Members.{document, are_typed, first_bad}
+use Rattle.ecr_model.specs.Documents.{document}
+use Rattle.ecr_model.specs.Members.{are_typed, first_bad}
 use Rattle.ecr_model.specs.Posed.{Posed, api, posed_of, is_json_call, posed_script, posed_bytes}
 use Rattle.ecr_model.specs.Refusals.{parameter_text}
 use Rattle.ecr_model.specs.Rendered.{json, reply_data, repository_data}
 use Rattle.ecr_model.specs.Replies.{json_head, connection_line, interim}
-use Rattle.ecr_model.specs.Requests.{asked_script, call_script, first_turn, then_cell}
-use Rattle.ecr_model.specs.Scripts.{Run, then_do, run, turn_at, with_line, fresh}
+use Rattle.ecr_model.specs.Requests.{Decided, plain, asked_script, call_script, first_turn, then_cell}
+use Rattle.ecr_model.specs.Scripts.{Run, then_do, run, entered, turn_at, with_lines, parts_after, fresh}
 use Rattle.ecr_model.specs.Limits.{standard}
 use Rattle.ecr_model.specs.Steps as steps
 use Rattle.ecr_model.specs.declared.call.Call.TheVariants.{Create}
@@ -33,52 +34,66 @@ use Rattle.ecr_model.specs.declared.reply.Reply.TheVariants.{Created}
 use Rattle.ecr_model.specs.declared.repository.Mutability.TheVariants.{Mutable}
 use Rattle.ecr_model.specs.Names.{is_name}
 use Rattle.ecr_model.specs.Sites.{utf8_or_empty, arn_of, uri_of}
-use Rattle.ecr_model.specs.Example.{example_sites, example_realm, first_cut, first_answer, first_bytes, first_request, the_end, AFirstCreationIsAnswered, AFirstRequestIsRead, AFirstSessionIsWritten}
+use Rattle.ecr_model.specs.Example.{example_sites, example_realm, first_key, first_cut, first_places, first_exchange, first_standing, first_answer, first_bytes, first_request, the_end, AFirstCreationIsAnswered, AFirstRequestIsRead, AFirstSessionIsWritten}
 use Rattle.ecr_model.proofs.FrontLemmas.{IsFront-body, IsFront-nil}
 
 -- ---- its answer
 
--- `team/app` at the one site
-abbrev app : RepoKey
-app = record { site = record { region = codes "us-east-1"; account = codes "111122223333" }; name = record { text = codes "team/app" } }
-
 abbrev creation : Posed
-creation = api (asks (cell app (Create Mutable) None))
+creation = api (asks (cell first_key (Create Mutable) None))
 
 posed : posed_of example_sites first_request ≡ creation
 unfolding posed_of is_json_call site_for named_site without_port reading action_of members_of typed_reading asked_by document are_typed first_bad parameter_text is_name utf8_valid_len is_utf8 chars serde_json_on_literals
 posed = refl
 
-abbrev ran : Run Reply
+abbrev ran : Run Decided
 ran = run example_realm fresh (posed_script creation 1700000000)
 
-answered : ran.answer ≡ Created 1700000000 Mutable
-unfolding posed_script asked_script call_script first_turn then_cell then_do run turn_at with_line fresh replay after_line first_directory registration standard steps.step steps.first_state steps.after_line
-answered = refl
-
-entered : ran.entries ≡ 2
-unfolding posed_script asked_script call_script first_turn then_cell then_do run turn_at with_line fresh replay after_line first_directory registration standard steps.step steps.first_state steps.after_line
-entered = refl
+-- the reply, the number of entries and the places of its turns
+answered : (ran.answer ≡ plain (Created 1700000000 Mutable)) × (ran.entries ≡ 2) × (ran.places ≡ first_places)
+unfolding posed_script asked_script call_script first_turn then_cell then_do run entered turn_at with_lines parts_after fresh replay after_line first_directory registration standard steps.step steps.first_state steps.after_line
+answered = (refl, refl, refl)
 
 rendered : posed_bytes creation false (Created 1700000000 Mutable) ≡ first_answer
 unfolding posed_bytes json reply_data repository_data json_head connection_line utf8_or_empty arn_of uri_of utf8_valid_len is_utf8 chars digits serde_json_on_literals
 rendered = refl
 
--- what a request comes to, by what it poses
+-- the outcome of a request, by what it poses
 outcome-posed : outcome_of example_realm fresh 1700000000 first_request ≡ ran
 outcome-posed = ap (λ p. run example_realm fresh (posed_script p 1700000000)) posed
 
 pub a_first_creation_is_answered : AFirstCreationIsAnswered
 unfolding written says_close
 a_first_creation_is_answered =
-    ap (λ p. posed_bytes p false (outcome_of example_realm fresh 1700000000 first_request).answer) posed
-    ∙ ap (λ r. posed_bytes creation false r) (ap (λ (r : Run Reply). r.answer) outcome-posed ∙ answered) ∙ rendered
+    ap (λ p. posed_bytes p false (outcome_of example_realm fresh 1700000000 first_request).answer.reply) posed
+    ∙ ap (λ r. posed_bytes creation false r) (ap (λ (r : Run Decided). r.answer.reply) outcome-posed ∙ ap (λ (d : Decided). d.reply) answered.0) ∙ rendered
+
+-- the exchange is what the request's turns come to
+first_served : IsServed first_standing first_exchange (record first_standing { world = left_by example_realm fresh 1700000000 first_cut first_request })
+first_served =
+    let two : (outcome_of example_realm fresh 1700000000 first_request).entries ≡ 2 = ap (λ (r : Run Decided). r.entries) outcome-posed ∙ answered.1 in
+    let none : (outcome_of example_realm fresh 1700000000 first_request).answer.sealed ≡ None =
+    ap (λ (r : Run Decided). r.answer.sealed) outcome-posed ∙ ap (λ (d : Decided). d.sealed) answered.0 in
+    let there : (outcome_of example_realm fresh 1700000000 first_request).places ≡ first_places = ap (λ (r : Run Decided). r.places) outcome-posed ∙ answered.2 in
+    record {
+      realm_stays = refl;
+      fixed_stays = refl;
+      timed = (refl, tt);
+      counts = record { at_most = omega (arith, two); all = λ served. sym two; sealed = λ served. sym none; no_other = inl refl };
+      placed = record { all = λ served. sym there; first = ([], there ∙ sym (append-nil first_places)); changed = omega arith };
+      bytes = sym a_first_creation_is_answered;
+      leaves = refl;
+    }
 
 pub a_first_session_is_written : AFirstSessionIsWritten
-unfolding replies interim waits framing_of max_body
-a_first_session_is_written =
-    let two : (outcome_of example_realm fresh 1700000000 first_request).entries ≡ 2 = ap (λ (r : Run Reply). r.entries) outcome-posed ∙ entered in
-    ((record { at_most = omega (arith, two); all = λ served. sym two }, tt), append-nil (written example_realm fresh 1700000000 first_cut first_request ++ []) ∙ append-nil (written example_realm fresh 1700000000 first_cut first_request) ∙ a_first_creation_is_answered)
+unfolding interim waits framing_of max_body
+a_first_session_is_written = (
+  (
+    record first_standing { world = left_by example_realm fresh 1700000000 first_cut first_request },
+    (record first_standing { world = left_by example_realm fresh 1700000000 first_cut first_request }, first_served, refl),
+  ),
+  append-nil (first_answer ++ []) ∙ append-nil first_answer,
+)
 
 -- ---- where its head ends
 

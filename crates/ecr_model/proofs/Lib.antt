@@ -2,6 +2,7 @@ pub mod FieldLemmas
 pub mod NamesLemmas
 pub mod DigestsLemmas
 pub mod SitesLemmas
+pub mod DocumentLemmas
 pub mod FramingLemmas
 pub mod ChunkLemmas
 pub mod PartLemmas
@@ -22,3 +23,4 @@ pub mod ScriptLemmas
 pub mod CellLemmas
 pub mod CreationLemmas
 pub mod CauseLemmas
+pub mod SoundnessLemmas

@@ -1,96 +1,115 @@
--- One more request of a session, and what the bytes that were read decide.
-use Rattle.std.proofs.Common.{◌≡◌, ℕ, List, [], ◌∷◌, ◌++◌, length, refl, sym, ap, ◌∙◌, arith, append_assoc, append-nil}
+-- One more exchange of a session, and what the bytes that were read decide.
+use Rattle.std.proofs.Common.{◌≡◌, ℕ, List, [], ◌∷◌, ◌++◌, map, Option, None, Some, refl, sym, ap, ◌∙◌, subst, append_assoc, append-nil}
+use Rattle.std.specs.Io.KnownBytes.{Appends}
+use Rattle.std.proofs.KnownBytes.{Appends-nil, Appends-trans}
 use Rattle.ecr_model.specs.declared.http.Request.{Request}
 use Rattle.ecr_model.specs.declared.outcome.Cut.{Cut}
-use Rattle.ecr_model.specs.declared.journal.Place.{Place}
+use Rattle.ecr_model.specs.Posed.{posed_of, posed_bytes}
+use Rattle.ecr_model.specs.Replies.{interim}
 use Rattle.ecr_model.specs.Scripts.{Realm, World}
-use Rattle.ecr_model.specs.Sessions.{answer_to, left_by, replies, left_after, Counts, AreCuts, IsPlaced, ArePlaces}
+use Rattle.ecr_model.specs.Sessions.{Exchange, Standing, Chain, IsServed, AreServed, IsTime, is_waiting, written, left_by, answer_to, sent_to, requests_of}
+use Rattle.ecr_model.specs.SessionLaws.{AreAlike, TheClockTellsTheMoments, AFixedMomentIsEach}
 
--- ---- one more request, over lists of moments
+-- ---- one more exchange
 
-pub replies-more : (realm : Realm) (world : World) (rs : List Request) (ms : List ℕ) (cs : List Cut) (r : Request) (m : ℕ) (c : Cut)
-    → length ms ≡ length rs → length cs ≡ length rs
-    → replies realm world (rs ++ r ∷ []) (ms ++ m ∷ []) (cs ++ c ∷ [])
-    ≡ replies realm world rs ms cs ++ answer_to realm (left_after realm world rs ms cs) m c r
-unfolding replies left_after
-replies-more realm world [] [] [] r m c moments cuts = append-nil (answer_to realm world m c r)
-replies-more realm world [] [] (d ∷ cs) r m c moments cuts = absurd (omega arith)
-replies-more realm world [] (x ∷ ms) cs r m c moments cuts = absurd (omega arith)
-replies-more realm world (q ∷ rs) [] cs r m c moments cuts = absurd (omega arith)
-replies-more realm world (q ∷ rs) (x ∷ ms) [] r m c moments cuts = absurd (omega arith)
-replies-more realm world (q ∷ rs) (x ∷ ms) (d ∷ cs) r m c moments cuts =
-    let next = left_by realm world x d q in
-    ap (λ (l : List ℕ). answer_to realm world x d q ++ l)
-    (replies-more realm next rs ms cs r m c (omega arith) (omega arith))
-    ∙ sym (append_assoc (answer_to realm world x d q) (replies realm next rs ms cs) (answer_to realm (left_after realm next rs ms cs) m c r))
+module _ {S : Type 0} (serves : S → Exchange → S → Type 0) where
+  -- a chain of exchanges, and one more that goes on from its end
+  pub Chain-more : (first mid last : S) (es : List Exchange) (e : Exchange)
+      → Chain serves first es mid → serves mid e last → Chain serves first (es ++ e ∷ []) last
+  Chain-more first mid last [] e chain serve = (last, subst (λ (s : S). serves s e last) chain serve, refl)
+  Chain-more first mid last (d ∷ es) e chain serve =
+      (chain.0, chain.1, Chain-more chain.0 mid last es e chain.2 serve)
 
-pub left_after-more : (realm : Realm) (world : World) (rs : List Request) (ms : List ℕ) (cs : List Cut) (r : Request) (m : ℕ) (c : Cut)
-    → length ms ≡ length rs → length cs ≡ length rs
-    → left_after realm world (rs ++ r ∷ []) (ms ++ m ∷ []) (cs ++ c ∷ [])
-    ≡ left_by realm (left_after realm world rs ms cs) m c r
-unfolding left_after
-left_after-more realm world [] [] [] r m c moments cuts = refl
-left_after-more realm world [] [] (d ∷ cs) r m c moments cuts = absurd (omega arith)
-left_after-more realm world [] (x ∷ ms) cs r m c moments cuts = absurd (omega arith)
-left_after-more realm world (q ∷ rs) [] cs r m c moments cuts = absurd (omega arith)
-left_after-more realm world (q ∷ rs) (x ∷ ms) [] r m c moments cuts = absurd (omega arith)
-left_after-more realm world (q ∷ rs) (x ∷ ms) (d ∷ cs) r m c moments cuts =
-    left_after-more realm (left_by realm world x d q) rs ms cs r m c (omega arith) (omega arith)
+-- what is sent to exchanges and one more
+pub sent_to-more : (es : List Exchange) (e : Exchange) → sent_to (es ++ e ∷ []) ≡ sent_to es ++ answer_to e
+sent_to-more [] e = append-nil (answer_to e)
+sent_to-more (d ∷ es) e =
+    ap (λ (l : List ℕ). answer_to d ++ l) (sent_to-more es e) ∙ sym (append_assoc (answer_to d) (sent_to es) (answer_to e))
 
-pub AreCuts-more : (realm : Realm) (world : World) (rs : List Request) (ms : List ℕ) (cs : List Cut) (r : Request) (m : ℕ) (c : Cut)
-    → length ms ≡ length rs → AreCuts realm world rs ms cs → Counts realm (left_after realm world rs ms cs) m r c
-    → AreCuts realm world (rs ++ r ∷ []) (ms ++ m ∷ []) (cs ++ c ∷ [])
-unfolding left_after
-AreCuts-more realm world [] [] [] r m c moments fit counts = (counts, tt)
-AreCuts-more realm world [] [] (d ∷ cs) r m c moments fit counts = absurd fit
-AreCuts-more realm world [] (x ∷ ms) cs r m c moments fit counts = absurd fit
-AreCuts-more realm world (q ∷ rs) [] cs r m c moments fit counts = absurd (omega arith)
-AreCuts-more realm world (q ∷ rs) (x ∷ ms) [] r m c moments fit counts = absurd fit
-AreCuts-more realm world (q ∷ rs) (x ∷ ms) (d ∷ cs) r m c moments fit counts = (
-  fit.0,
-  AreCuts-more realm (left_by realm world x d q) rs ms cs r m c (omega arith) fit.1 counts,
-)
+-- ---- moments
 
--- moments and cuts beyond the requests say nothing
-pub replies-beyond : (realm : Realm) (world : World) (rs : List Request) (ms : List ℕ) (cs : List Cut) (es : List ℕ) (ds : List Cut)
-    → length ms ≡ length rs → length cs ≡ length rs
-    → replies realm world rs (ms ++ es) (cs ++ ds) ≡ replies realm world rs ms cs
-unfolding replies
-replies-beyond realm world [] ms cs es ds moments cuts = refl
-replies-beyond realm world (q ∷ rs) [] cs es ds moments cuts = absurd (omega arith)
-replies-beyond realm world (q ∷ rs) (x ∷ ms) [] es ds moments cuts = absurd (omega arith)
-replies-beyond realm world (q ∷ rs) (x ∷ ms) (d ∷ cs) es ds moments cuts =
-    ap (λ (l : List ℕ). answer_to realm world x d q ++ l)
-    (replies-beyond realm (left_by realm world x d q) rs ms cs es ds (omega arith) (omega arith))
+-- the first exchange's moment, and those of the others
+moments_from : (was mid last : Option (List ℕ)) (moment : ℕ) (moments : List ℕ) → Appends was mid (moment ∷ []) → Appends mid last moments
+    → Appends was last (moment ∷ moments)
+moments_from was mid last moment moments first rest = Appends-trans was mid last (moment ∷ []) moments first rest
 
--- ---- the lengths
+-- the clock gave the moment where none is fixed
+IsTime-clock : (fixed : Option ℕ) (before after : Option (List ℕ)) (moment : ℕ) → fixed ≡ None → IsTime fixed before after moment
+    → Appends before after (moment ∷ [])
+IsTime-clock None before after moment is time = time.0
+IsTime-clock (Some m) before after moment is time = absurd (cc)
 
-pub AreCuts-lengths : (realm : Realm) (world : World) (rs : List Request) (ms : List ℕ) (cs : List Cut)
-    → AreCuts realm world rs ms cs → (length ms ≡ length rs) × (length cs ≡ length rs)
-AreCuts-lengths realm world [] [] [] fit = (refl, refl)
-AreCuts-lengths realm world [] [] (c ∷ cs) fit = absurd fit
-AreCuts-lengths realm world [] (m ∷ ms) cs fit = absurd fit
-AreCuts-lengths realm world (r ∷ rs) ms [] fit = absurd fit
-AreCuts-lengths realm world (r ∷ rs) [] (c ∷ cs) fit = absurd fit
-AreCuts-lengths realm world (r ∷ rs) (m ∷ ms) (c ∷ cs) fit =
-    let rest : (length ms ≡ length rs) × (length cs ≡ length rs) =
-    AreCuts-lengths realm (left_by realm world m c r) rs ms cs fit.1 in
-    (omega (arith, rest.0), omega (arith, rest.1))
+-- the moment is the fixed one
+IsTime-fixed : (fixed : Option ℕ) (before after : Option (List ℕ)) (m moment : ℕ) → fixed ≡ Some m → IsTime fixed before after moment
+    → moment ≡ m
+IsTime-fixed None before after m moment is time = absurd (cc)
+IsTime-fixed (Some n) before after m moment is time = let same : Some n ≡ Some m = is in let at : moment ≡ n = time.0 in cc
 
--- ---- places
+pub the_clock_tells_the_moments : TheClockTellsTheMoments
+the_clock_tells_the_moments first last [] served none =
+    subst (λ (s : Standing). Appends first.told s.told []) (sym served) (Appends-nil first.told)
+the_clock_tells_the_moments first last (e ∷ es) served none =
+    let next : Standing = served.0 in
+    let still : next.fixed ≡ None = served.1.fixed_stays ∙ none in
+    moments_from first.told next.told last.told e.moment (map (λ d. d.moment) es)
+    (IsTime-clock first.fixed first.told next.told e.moment none served.1.timed)
+    (the_clock_tells_the_moments next last es served.2 still)
 
-pub ArePlaces-more : (realm : Realm) (world : World) (rs : List Request) (ms : List ℕ) (cs : List Cut) (ps : List (List Place)) (r : Request) (m : ℕ) (c : Cut) (p : List Place)
-    → length ms ≡ length rs → length cs ≡ length rs → ArePlaces realm world rs ms cs ps → IsPlaced realm (left_after realm world rs ms cs) m c r p
-    → ArePlaces realm world (rs ++ r ∷ []) (ms ++ m ∷ []) (cs ++ c ∷ []) (ps ++ p ∷ [])
-unfolding left_after
-ArePlaces-more realm world [] [] [] [] r m c p moments cuts fit placed = (placed, tt)
-ArePlaces-more realm world [] [] [] (q ∷ ps) r m c p moments cuts fit placed = absurd fit
-ArePlaces-more realm world [] [] (d ∷ cs) ps r m c p moments cuts fit placed = absurd (omega arith)
-ArePlaces-more realm world [] (x ∷ ms) cs ps r m c p moments cuts fit placed = absurd (omega arith)
-ArePlaces-more realm world (q ∷ rs) [] cs ps r m c p moments cuts fit placed = absurd (omega arith)
-ArePlaces-more realm world (q ∷ rs) (x ∷ ms) [] ps r m c p moments cuts fit placed = absurd (omega arith)
-ArePlaces-more realm world (q ∷ rs) (x ∷ ms) (d ∷ cs) [] r m c p moments cuts fit placed = absurd fit
-ArePlaces-more realm world (q ∷ rs) (x ∷ ms) (d ∷ cs) (y ∷ ps) r m c p moments cuts fit placed = (
-  fit.0,
-  ArePlaces-more realm (left_by realm world x d q) rs ms cs ps r m c p (omega arith) (omega arith) fit.1 placed,
-)
+pub a_fixed_moment_is_each : AFixedMomentIsEach
+a_fixed_moment_is_each first last [] moment served fixed = refl
+a_fixed_moment_is_each first last (e ∷ es) moment served fixed =
+    let next : Standing = served.0 in
+    let still : next.fixed ≡ Some moment = served.1.fixed_stays ∙ fixed in
+    let is : e.moment ≡ moment = IsTime-fixed first.fixed first.told next.told moment e.moment fixed served.1.timed in
+    let rest : map (λ d. d.moment) es ≡ map (λ d. moment) es = a_fixed_moment_is_each next last es moment served.2 still in
+    ap (λ m. m ∷ map (λ d. d.moment) es) is ∙ ap (λ l. moment ∷ l) rest
+
+-- ---- what the requests, the moments and the cuts decide
+
+-- the reply to a request, and what it leaves, by what decides them
+written-same : (realm other : Realm) (world another : World) (d e : Exchange)
+    → realm ≡ other → world ≡ another → d.moment ≡ e.moment → d.cut ≡ e.cut → d.request ≡ e.request
+    → written realm world d.moment d.cut d.request ≡ written other another e.moment e.cut e.request
+written-same realm other world another d e r w m c q =
+    ap (λ x. written x world d.moment d.cut d.request) r
+    ∙ ap (λ x. written other x d.moment d.cut d.request) w
+    ∙ ap (λ x. written other another x d.cut d.request) m
+    ∙ ap (λ x. written other another e.moment x d.request) c
+    ∙ ap (λ x. written other another e.moment e.cut x) q
+
+left_by-same : (realm other : Realm) (world another : World) (d e : Exchange)
+    → realm ≡ other → world ≡ another → d.moment ≡ e.moment → d.cut ≡ e.cut → d.request ≡ e.request
+    → left_by realm world d.moment d.cut d.request ≡ left_by other another e.moment e.cut e.request
+left_by-same realm other world another d e r w m c q =
+    ap (λ x. left_by x world d.moment d.cut d.request) r
+    ∙ ap (λ x. left_by other x d.moment d.cut d.request) w
+    ∙ ap (λ x. left_by other another x d.cut d.request) m
+    ∙ ap (λ x. left_by other another e.moment x d.request) c
+    ∙ ap (λ x. left_by other another e.moment e.cut x) q
+
+-- two items that are equal one after another
+heads_same : {A : Type 0} (x y : A) (xs ys : List A) → (x ∷ xs) ≡ (y ∷ ys) → (x ≡ y) × (xs ≡ ys)
+heads_same x y xs ys is = (cc, cc)
+
+pub AreServed-same : (s t last other : Standing) (es fs : List Exchange)
+    → s.realm ≡ t.realm → s.world ≡ t.world → AreServed s es last → AreServed t fs other
+    → requests_of es ≡ requests_of fs → map (λ e. e.moment) es ≡ map (λ e. e.moment) fs → map (λ e. e.cut) es ≡ map (λ e. e.cut) fs
+    → (sent_to es ≡ sent_to fs) × (last.world ≡ other.world)
+AreServed-same s t last other [] [] realm world one two q m c =
+    (refl, ap (λ (x : Standing). x.world) one ∙ world ∙ sym (ap (λ (x : Standing). x.world) two))
+AreServed-same s t last other [] (f ∷ fs) realm world one two q m c = absurd (cc)
+AreServed-same s t last other (e ∷ es) [] realm world one two q m c = absurd (cc)
+AreServed-same s t last other (e ∷ es) (f ∷ fs) realm world one two q m c =
+    let qs = heads_same e.request f.request (requests_of es) (requests_of fs) q in
+    let ms = heads_same e.moment f.moment (map (λ d. d.moment) es) (map (λ d. d.moment) fs) m in
+    let cs = heads_same e.cut f.cut (map (λ d. d.cut) es) (map (λ d. d.cut) fs) c in
+    let bytes : e.bytes ≡ f.bytes =
+    one.1.bytes ∙ written-same s.realm t.realm s.world t.world e f realm world ms.0 cs.0 qs.0 ∙ sym two.1.bytes in
+    let next_realm : one.0.realm ≡ two.0.realm = one.1.realm_stays ∙ realm ∙ sym two.1.realm_stays in
+    let next_world : one.0.world ≡ two.0.world =
+    one.1.leaves ∙ left_by-same s.realm t.realm s.world t.world e f realm world ms.0 cs.0 qs.0 ∙ sym two.1.leaves in
+    let rest : (sent_to es ≡ sent_to fs) × (last.world ≡ other.world) =
+    AreServed-same one.0 two.0 last other es fs next_realm next_world one.2 two.2 qs.1 ms.1 cs.1 in
+    let answer : answer_to e ≡ answer_to f =
+    ap (λ r. interim (is_waiting r) ++ e.bytes) qs.0 ∙ ap (λ b. interim (is_waiting f.request) ++ b) bytes in
+    (ap (λ a. a ++ sent_to es) answer ∙ ap (λ l. answer_to f ++ l) rest.0, rest.1)

@@ -22,7 +22,8 @@ use Rattle.ecr_model.specs.declared.refusal.Refusal.{Refusal}
 use Rattle.ecr_model.specs.declared.refusal.Refusal.TheVariants.{InvalidParameter, UnknownOperation, Serialization}
 use Rattle.ecr_model.specs.declared.repository.Mutability.{Mutability}
 use Rattle.ecr_model.specs.declared.repository.Mutability.TheVariants.{Mutable, Immutable}
-use Rattle.ecr_model.specs.Members.{document, value_of, text_in, number_in, items_in, place_of, site_of, are_typed, first_bad}
+use Rattle.ecr_model.specs.Documents.{document}
+use Rattle.ecr_model.specs.Members.{value_of, text_in, number_in, items_in, place_of, site_of, are_typed, first_bad}
 use Rattle.ecr_model.specs.Policies.{texts_of}
 
 -- what stands before an action's name in X-Amz-Target

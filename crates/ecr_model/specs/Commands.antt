@@ -50,13 +50,9 @@ SaysUsage before after ends.Usage = IsIdle before after × Appends before.held a
 SaysUsage before after ends.WriteFault =
     IsIdle before after × (before.write_faults < after.write_faults)
     × (taken : List ℕ) × (lost : List ℕ) × (usage_lines ≡ taken ++ lost) × Appends before.held after.held taken
+    × (1 ≤ length lost)
 SaysUsage before after ends.Mem = IsIdle before after × Keeps before.held after.held
-SaysUsage before after ends.Whole = ⊥
-SaysUsage before after ends.ReadFault = ⊥
-SaysUsage before after (ends.Truncated at) = ⊥
-SaysUsage before after (ends.Bad at) = ⊥
-SaysUsage before after (ends.TooLong at limit) = ⊥
-SaysUsage before after ends.Spent = ⊥
+SaysUsage before after _ = ⊥
 
 -- the program's session at these sites: nothing is there at first
 abbrev pub fresh_session : List SiteId → Option ℕ → Setting

@@ -2,6 +2,9 @@
 use Rattle.std.specs.Prelude.{◌≡◌, ℕ, Bool, List, [], ◌∷◌, ◌++◌, Some, None, codes}
 use Rattle.ecr_model.specs.declared.http.Head.{Head}
 use Rattle.ecr_model.specs.declared.http.Request.{Request}
+use Rattle.ecr_model.specs.declared.journal.CellKey.TheVariants.{Directory, Repository}
+use Rattle.ecr_model.specs.declared.journal.Place.{Place}
+use Rattle.ecr_model.specs.declared.names.RepoKey.{RepoKey}
 use Rattle.ecr_model.specs.declared.names.SiteId.{SiteId}
 use Rattle.ecr_model.specs.declared.outcome.Cut.{Cut}
 use Rattle.ecr_model.specs.Texts.{crlf}
@@ -10,7 +13,7 @@ use Rattle.ecr_model.specs.Framing.{framing_of, max_body}
 use Rattle.ecr_model.specs.Stream.{complete, IsBody, Reads, Tail, ended}
 use Rattle.ecr_model.specs.Limits.{standard}
 use Rattle.ecr_model.specs.Scripts.{Realm, fresh}
-use Rattle.ecr_model.specs.Sessions.{written, AreCuts}
+use Rattle.ecr_model.specs.Sessions.{written, Exchange, Standing, AreServed}
 use Rattle.ecr_model.specs.SessionLaws.{output_of}
 
 -- the bytes of a request that creates `team/app`
@@ -37,9 +40,16 @@ first_request = record {
   body = codes "{\"repositoryName\":\"team/app\"}";
 }
 
+-- `team/app` at `us-east-1/111122223333`
+abbrev pub first_key : RepoKey
+first_key = record {
+  site = record { region = codes "us-east-1"; account = codes "111122223333" };
+  name = record { text = codes "team/app" };
+}
+
 -- the one site that is served
 abbrev pub example_sites : List SiteId
-example_sites = record { region = codes "us-east-1"; account = codes "111122223333" } ∷ []
+example_sites = first_key.site ∷ []
 
 -- the program's limits, at that site
 abbrev pub example_realm : Realm
@@ -69,12 +79,24 @@ the_end = record { due = Bool.false; ending = ended }
 abbrev pub AFirstRequestIsRead : Type 0
 AFirstRequestIsRead = Reads first_bytes Bool.true (first_request ∷ []) the_end
 
--- the cut is of the request, and what a session writes to it is that answer
+-- the places of its turns: in the site's directory, and in the repository
+abbrev pub first_places : List Place
+first_places = record { cell = Directory first_key.site; ticket = 0; changed = Bool.true }
+    ∷ record { cell = Repository first_key; ticket = 0; changed = Bool.true } ∷ []
+
+-- the request's exchange
+abbrev pub first_exchange : Exchange
+first_exchange = record { request = first_request; moment = 1700000000; places = first_places; cut = first_cut; bytes = first_answer }
+
+-- a session's standing where no request came yet
+abbrev pub first_standing : Standing
+first_standing = record { realm = example_realm; world = fresh; fixed = Some 1700000000; told = None }
+
+-- the exchange is one of a session over a fresh registry, and the session writes that answer
 abbrev pub AFirstSessionIsWritten : Type 0
 AFirstSessionIsWritten =
-    AreCuts example_realm fresh (first_request ∷ []) (1700000000 ∷ []) (first_cut ∷ [])
-    × (output_of (record { realm = example_realm; first = fresh; fixed = Some 1700000000 })
-    (record { moments = 1700000000 ∷ []; places = []; cuts = first_cut ∷ [] }) (first_request ∷ []) the_end ≡ first_answer)
+    ((last : Standing) × AreServed first_standing (first_exchange ∷ []) last)
+    × (output_of (first_exchange ∷ []) the_end ≡ first_answer)
 
 -- the head of a request whose body comes in chunks
 abbrev pub chunked_head : Head

@@ -4,7 +4,6 @@ use Rattle.ecr_model.specs.declared.call.Call.{Call}
 use Rattle.ecr_model.specs.declared.call.Call.TheVariants.{Create, Delete, Describe, SetMutability}
 use Rattle.ecr_model.specs.declared.call.SiteCall.TheVariants as site_calls
 use Rattle.ecr_model.specs.declared.directory.Registered.TheVariants.{New, Known, Full}
-use Rattle.ecr_model.specs.declared.journal.Limits.{Limits}
 use Rattle.ecr_model.specs.declared.journal.Line.{Line}
 use Rattle.ecr_model.specs.declared.names.Name.{Name}
 use Rattle.ecr_model.specs.declared.names.RepoKey.{RepoKey}
@@ -14,6 +13,7 @@ use Rattle.ecr_model.specs.declared.reply.Reply.TheVariants as replies
 use Rattle.ecr_model.specs.declared.reply.SiteReply.TheVariants as site_replies
 use Rattle.ecr_model.specs.declared.repository.Mutability.TheVariants.{Mutable, Immutable}
 use Rattle.ecr_model.specs.Directories as directories
+use Rattle.ecr_model.specs.Directories.{SiteFrame}
 use Rattle.ecr_model.specs.Limits.{standard}
 use Rattle.ecr_model.specs.Steps.{Turn, reply_at, line_of}
 
@@ -57,9 +57,9 @@ pub record ARepositoryComesAndGoes : Type 0 where
 abbrev pub name : List ℕ → Name
 name text = record { text = text }
 
--- a limit of two names
-abbrev pub two : Limits
-two = record standard { names = 2 }
+-- a directory with a limit of two names
+abbrev pub two : SiteFrame
+two = record { site = app.site; served = app.site ∷ []; limits = record standard { names = 2 } }
 
 -- `b1`, then `a1`
 abbrev pub registrations : List Line
@@ -68,10 +68,10 @@ registrations = directories.line_of 0 0 (name (codes "b1")) ∷ directories.line
 -- the names stand in the order of their bytes, whatever was first; a third one is refused, a known one isn't
 pub record NamesAreInOrder : Type 0 where
   pub ordered : (directories.replay two registrations).names ≡ name (codes "a1") ∷ name (codes "b1") ∷ []
-  pub first_page : directories.site_reply (directories.replay two registrations) (site_calls.Names (record { from = 0; max = 1 }))
-      ≡ site_replies.Names (name (codes "a1") ∷ []) true
-  pub last_page : directories.site_reply (directories.replay two registrations) (site_calls.Names (record { from = 1; max = 1 }))
-      ≡ site_replies.Names (name (codes "b1") ∷ []) false
+  pub first_page : directories.site_step two (directories.replay two registrations) (site_calls.Names (record { from = 0; max = 1 }))
+      ≡ record { reply = site_replies.Names (name (codes "a1") ∷ []) true; act = None }
+  pub last_page : directories.site_step two (directories.replay two registrations) (site_calls.Names (record { from = 1; max = 1 }))
+      ≡ record { reply = site_replies.Names (name (codes "b1") ∷ []) false; act = None }
   pub full : directories.registration two (directories.replay two registrations) (name (codes "c1")) ≡ Full 2 2
   pub known : directories.registration two (directories.replay two registrations) (name (codes "b1")) ≡ Known
   pub before : directories.registration two (directories.directory_at two registrations 4) (name (codes "a1")) ≡ New

@@ -8,6 +8,7 @@ use Rattle.ecr_model.specs.declared.refusal.Refusal.{Refusal}
 use Rattle.ecr_model.specs.declared.reply.Reply.TheVariants.{Refused}
 use Rattle.ecr_model.specs.declared.repository.Repository.{Repository}
 use Rattle.ecr_model.specs.Directories as directories
+use Rattle.ecr_model.specs.Directories.{SiteFrame}
 use Rattle.ecr_model.specs.Journals.{past, replay, IsSound, state_at}
 use Rattle.ecr_model.specs.Steps as steps
 use Rattle.ecr_model.specs.Steps.{Turn, step}
@@ -51,7 +52,7 @@ ReplayOfRepositories = (key : RepoKey) (limits : Limits) → ReplayGoesOn (steps
 
 -- `ReplayGoesOn`, of each directory
 abbrev pub ReplayOfDirectories : Type 0
-ReplayOfDirectories = (limits : Limits) → ReplayGoesOn (directories.after_line limits) directories.first_directory
+ReplayOfDirectories = (frame : SiteFrame) → ReplayGoesOn (directories.after_line frame) directories.first_directory
 
 -- `AFirstPartIsSound`, of each repository
 abbrev pub FirstPartsOfRepositories : Type 0
@@ -59,7 +60,7 @@ FirstPartsOfRepositories = (key : RepoKey) (limits : Limits) → AFirstPartIsSou
 
 -- `AFirstPartIsSound`, of each directory
 abbrev pub FirstPartsOfDirectories : Type 0
-FirstPartsOfDirectories = (limits : Limits) → AFirstPartIsSound (directories.after_line limits) directories.first_directory
+FirstPartsOfDirectories = (frame : SiteFrame) → AFirstPartIsSound (directories.after_line frame) directories.first_directory
 
 -- `ASoundJournalGrows`, of each repository
 abbrev pub GrowthOfRepositories : Type 0
@@ -67,7 +68,7 @@ GrowthOfRepositories = (key : RepoKey) (limits : Limits) → ASoundJournalGrows 
 
 -- `ASoundJournalGrows`, of each directory
 abbrev pub GrowthOfDirectories : Type 0
-GrowthOfDirectories = (limits : Limits) → ASoundJournalGrows (directories.after_line limits) directories.first_directory
+GrowthOfDirectories = (frame : SiteFrame) → ASoundJournalGrows (directories.after_line frame) directories.first_directory
 
 -- `WhatWasStays`, of each repository
 abbrev pub PastOfRepositories : Type 0
@@ -75,7 +76,7 @@ PastOfRepositories = (key : RepoKey) (limits : Limits) → WhatWasStays (steps.a
 
 -- `WhatWasStays`, of each directory
 abbrev pub PastOfDirectories : Type 0
-PastOfDirectories = (limits : Limits) → WhatWasStays (directories.after_line limits) directories.first_directory
+PastOfDirectories = (frame : SiteFrame) → WhatWasStays (directories.after_line frame) directories.first_directory
 
 -- `TheLastIsNow`, of each repository
 abbrev pub NowOfRepositories : Type 0
@@ -83,4 +84,4 @@ NowOfRepositories = (key : RepoKey) (limits : Limits) → TheLastIsNow (steps.af
 
 -- `TheLastIsNow`, of each directory
 abbrev pub NowOfDirectories : Type 0
-NowOfDirectories = (limits : Limits) → TheLastIsNow (directories.after_line limits) directories.first_directory
+NowOfDirectories = (frame : SiteFrame) → TheLastIsNow (directories.after_line frame) directories.first_directory

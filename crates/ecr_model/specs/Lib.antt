@@ -8,11 +8,13 @@ pub mod Stream
 pub mod Names
 pub mod Digests
 pub mod Content
+pub mod Contents
 pub mod Tags
 pub mod Sites
 pub mod Hosts
 pub mod Uploads
 pub mod Limits
+pub mod Documents
 pub mod Policies
 pub mod Refusals
 pub mod Members
@@ -25,6 +27,7 @@ pub mod Directories
 pub mod Replies
 pub mod Rendered
 pub mod Scripts
+pub mod Soundness
 pub mod Requests
 pub mod ScriptLaws
 pub mod Posed

@@ -8,7 +8,7 @@ use Rattle.ecr_model.specs.declared.manifest.Descriptor.{Descriptor}
 use Rattle.ecr_model.specs.declared.manifest.Facts.{Facts}
 use Rattle.ecr_model.specs.declared.manifest.ManifestFault.{ManifestFault}
 use Rattle.ecr_model.specs.declared.names.Digest.{Digest}
-use Rattle.ecr_model.specs.Members.{document}
+use Rattle.ecr_model.specs.Documents.{document}
 use Rattle.ecr_model.specs.Digests.{digest_of}
 
 -- ---- media types

@@ -17,10 +17,6 @@ use Rattle.ecr_model.specs.Policies.{number_of, texts_of}
 use Rattle.ecr_model.specs.Refusals.{parameter_text}
 use Rattle.ecr_model.specs.Sites.{is_digit}
 
--- the body's JSON reading; a body that isn't UTF-8 has none
-unfoldable pub document : List ℕ → Option Data
-document body = if utf8_valid_len body == length body then read body else None
-
 -- the value, unless it is null
 abbrev pub unless_null : Data → Option Data
 unless_null value = if is_some (as_null value) then None else Some value

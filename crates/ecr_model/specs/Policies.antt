@@ -4,8 +4,8 @@ use Rattle.std.specs.Prelude.{ℕ, suc, Bool, true, false, not, ◌&&◌, ◌||�
 use Rattle.std.specs.Option.{option_map_or}
 use Rattle.std.specs.List.{list_all, list_any, filter, cons_option}
 use Rattle.serde_json.specs.Data.{Data, Items, no_items, item, Members, no_members, member}
-use Rattle.serde_json.specs.Read.{read}
 use Rattle.serde_json.specs.Find.{get, as_str, as_array, as_object, as_number, as_u64}
+use Rattle.ecr_model.specs.Documents.{document}
 use Rattle.ecr_model.specs.declared.lifecycle.Policy.{Policy}
 use Rattle.ecr_model.specs.declared.lifecycle.PolicyFault.{PolicyFault}
 use Rattle.ecr_model.specs.declared.lifecycle.Rule.{Rule}
@@ -238,4 +238,4 @@ has_length text = nat_le 100 (characters text) && nat_le (characters text) 30720
 
 -- the policy of a text, or the first rule that is refused and why
 unfoldable pub policy : List ℕ → Result Policy PolicyFault
-policy text = if has_length text then read_rules text (rules_in (read text)) else Err (of_text 1)
+policy text = if has_length text then read_rules text (rules_in (document text)) else Err (of_text 1)

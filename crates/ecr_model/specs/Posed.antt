@@ -11,7 +11,7 @@ use Rattle.ecr_model.specs.Framing.{path_of}
 use Rattle.ecr_model.specs.Hosts.{site_for}
 use Rattle.ecr_model.specs.Rendered.{json, refused}
 use Rattle.ecr_model.specs.Replies.{empty_reply}
-use Rattle.ecr_model.specs.Requests.{asked_script}
+use Rattle.ecr_model.specs.Requests.{Decided, plain, asked_script}
 use Rattle.ecr_model.specs.Scripts.{Script, ends}
 
 -- a call of the JSON API, or a target at which nothing is served
@@ -37,13 +37,13 @@ posed_of served request = if is_json_call request
     then api (reading (target_of request) request.body (base_of served request) served)
     else unrouted
 
--- its turns, at that moment; what is refused as it is read, or isn't served, has none
-unfoldable pub posed_script : Posed → ℕ → Script Reply
+-- its turns, at that moment; a request that is refused as it is read, or isn't served, has none
+unfoldable pub posed_script : Posed → ℕ → Script Decided
 posed_script (api (asks asked)) moment = asked_script asked moment
-posed_script (api (refuses refusal)) moment = ends (Refused refusal)
-posed_script unrouted moment = ends (Refused UnknownOperation)
+posed_script (api (refuses refusal)) moment = ends (plain (Refused refusal))
+posed_script unrouted moment = ends (plain (Refused UnknownOperation))
 
--- the reply to it as bytes, where its turns come to that
+-- the reply to it as bytes, where its turns come to that reply
 unfoldable pub posed_bytes : Posed → Bool → Reply → List ℕ
 posed_bytes (api (asks asked)) close reply = json asked reply close
 posed_bytes (api (refuses refusal)) close reply = refused refusal close

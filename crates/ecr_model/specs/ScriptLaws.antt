@@ -1,5 +1,5 @@
 -- What holds of scripts, whatever they do.
-use Rattle.std.specs.Prelude.{◌≡◌, ◌⊎◌, ℕ, ◌+◌, false, [], ◌∷◌, ◌++◌, None}
+use Rattle.std.specs.Prelude.{◌≡◌, ◌⊎◌, ℕ, ◌+◌, false, List, [], ◌∷◌, ◌++◌, Option, None}
 use Rattle.ecr_model.specs.declared.call.Call.{Call}
 use Rattle.ecr_model.specs.declared.call.Call.TheVariants.{Create}
 use Rattle.ecr_model.specs.declared.journal.CellKey.TheVariants.{Directory, Repository}
@@ -8,10 +8,9 @@ use Rattle.ecr_model.specs.declared.refusal.Refusal.TheVariants.{RepositoryNotFo
 use Rattle.ecr_model.specs.declared.reply.Reply.TheVariants.{Created, Refused}
 use Rattle.ecr_model.specs.declared.repository.Mutability.{Mutability}
 use Rattle.ecr_model.specs.Directories.{directory_at, is_registered}
-use Rattle.ecr_model.specs.Journals.{past}
-use Rattle.ecr_model.specs.Requests.{call_script}
-use Rattle.ecr_model.specs.Scripts.{Script, then_do, Realm, World, run, plain_turn}
-use Rattle.ecr_model.specs.Steps.{line_of, repository_at}
+use Rattle.ecr_model.specs.Requests.{beside_of, call_script}
+use Rattle.ecr_model.specs.Scripts.{Script, then_do, Realm, World, frame_of, next_ticket, run}
+use Rattle.ecr_model.specs.Steps.{line_of, repository_at, turn_of}
 
 -- the run of a script and then another is the one run and then the other
 pub record RunsThen {A B : Type 0} (realm : Realm) (world : World) (script : Script A) (next : A → Script B) : Type 0 where
@@ -23,15 +22,16 @@ pub record RunsThen {A B : Type 0} (realm : Realm) (world : World) (script : Scr
 -- whatever the journals are: where CreateRepository is answered as created, the repository's journal has that creation once
 -- more than before, behind all its other lines
 abbrev pub ACreationIsKept : Type 0
-ACreationIsKept = (realm : Realm) (world : World) (key : RepoKey) (mutability shown : Mutability) (moment created : ℕ)
-    → (run realm world (call_script key (Create mutability) moment)).answer ≡ Created created shown
-    → (run realm world (call_script key (Create mutability) moment)).world.journals (Repository key)
-    ≡ world.journals (Repository key) ++ line_of 0 (plain_turn (past (world.journals (Repository key))) moment) (Create mutability) ∷ []
+ACreationIsKept = (realm : Realm) (world : World) (key : RepoKey) (mutability shown : Mutability) (given : Option (List ℕ)) (moment created : ℕ)
+    → (run realm world (call_script key (Create mutability) given moment)).answer.reply ≡ Created created shown
+    → (run realm world (call_script key (Create mutability) given moment)).world.journals (Repository key)
+    ≡ world.journals (Repository key)
+    ++ line_of 0 (turn_of (next_ticket world (Repository key)) None (beside_of given moment)) (Create mutability) ∷ []
 
 -- whatever the journals are: a call is answered that there is no such repository only where the name isn't registered in the
 -- site's directory as at its ticket there, or the repository is absent as at its ticket
 abbrev pub NotFoundHasItsCause : Type 0
-NotFoundHasItsCause = (realm : Realm) (world : World) (key : RepoKey) (call : Call) (moment : ℕ)
-    → (run realm world (call_script key call moment)).answer ≡ Refused RepositoryNotFound
-    → (is_registered key.name (directory_at realm.limits (world.journals (Directory key.site)) (past (world.journals (Directory key.site)))) ≡ false)
-    ⊎ ((repository_at key realm.limits (world.journals (Repository key)) (past (world.journals (Repository key)))).present ≡ None)
+NotFoundHasItsCause = (realm : Realm) (world : World) (key : RepoKey) (call : Call) (given : Option (List ℕ)) (moment : ℕ)
+    → (run realm world (call_script key call given moment)).answer.reply ≡ Refused RepositoryNotFound
+    → (is_registered key.name (directory_at (frame_of realm key.site) (world.journals (Directory key.site)) (next_ticket world (Directory key.site))) ≡ false)
+    ⊎ ((repository_at key realm.limits (world.journals (Repository key)) (next_ticket world (Repository key))).present ≡ None)

@@ -7,6 +7,7 @@ use Rattle.ecr_model.specs.declared.call.Call.TheVariants.{Create, Delete, Descr
 use Rattle.ecr_model.specs.declared.images.Row.{Row}
 use Rattle.ecr_model.specs.declared.journal.Act.{Act}
 use Rattle.ecr_model.specs.declared.journal.Act.TheVariants.{Called, Register}
+use Rattle.ecr_model.specs.declared.journal.Entry.{Entry}
 use Rattle.ecr_model.specs.declared.journal.Limits.{Limits}
 use Rattle.ecr_model.specs.declared.journal.Line.{Line}
 use Rattle.ecr_model.specs.declared.lifecycle.Policy.{Policy}
@@ -115,13 +116,29 @@ sets_mutability mutability s = where_present s (λ p. if same_mutability mutabil
     then answers (MutabilitySet mutability)
     else becomes (record s { present = Some (record p { mutability = mutability }) }) (MutabilitySet mutability))
 
--- what a turn fixes beside the call: its ticket, its moment in seconds, the destinations of a push, and the digest of all
+-- the values beside a call on a repository: its moment in seconds, the destinations of a push, and the bytes that come
+-- with it
+pub record Beside : Type 0 where
+  pub moment : ℕ
+  pub destinations : List SiteId
+  pub given : Option (List ℕ)
+
+-- a turn's values beside its call: the ticket, the moment in seconds, the destinations of a push, and the digest of all
 -- parts of an upload that is completed
 pub record Turn : Type 0 where
   pub ticket : ℕ
   pub moment : ℕ
   pub destinations : List SiteId
   pub sealed : Option Digest
+
+-- the turn of that ticket, in which an upload with that digest is completed
+abbrev pub turn_of : ℕ → Option Digest → Beside → Turn
+turn_of ticket sealed beside =
+    record { ticket = ticket; moment = beside.moment; destinations = beside.destinations; sealed = sealed }
+
+-- the entry of a call that changes the repository
+abbrev pub entry_of : Turn → Call → Entry
+entry_of turn call = record { moment = turn.moment; act = Called call turn.destinations turn.sealed }
 
 -- what a call on the repository of that key comes to in a turn
 unfoldable pub step : RepoKey → Limits → Repository → Turn → Call → Outcome
@@ -158,8 +175,4 @@ reply_at key limits lines turn call = (step key limits (repository_at key limits
 
 -- the line that a call enters in a turn, under that caller's number
 abbrev pub line_of : ℕ → Turn → Call → Line
-line_of caller turn call = record {
-  ticket = turn.ticket;
-  caller = caller;
-  entry = record { moment = turn.moment; act = Called call turn.destinations turn.sealed };
-}
+line_of caller turn call = record { ticket = turn.ticket; caller = caller; entry = entry_of turn call }

@@ -1,7 +1,7 @@
 // The laws of the definitions that contracts cite. The functions do nothing: their contracts are the laws.
 ghost use Rattle.ecr_model.specs.Example.{AChunkedBodyIsRead, AFirstCreationIsAnswered, AFirstRequestIsRead, AFirstSessionIsWritten};
 ghost use Rattle.ecr_model.specs.ScriptLaws.{ACreationIsKept, NotFoundHasItsCause};
-ghost use Rattle.ecr_model.specs.SessionLaws.{OutputIsDetermined, TheInputDecidesTheEnd};
+ghost use Rattle.ecr_model.specs.SessionLaws.{AFixedMomentIsEach, OutputIsDetermined, PlacesAreFresh, SessionsKeepJournalsSound, TheClockTellsTheMoments, TheInputDecidesTheEnd};
 ghost use Rattle.ecr_model.specs.StreamLaws.{ACutChangesNothing, AnEndStays, RequestsAreDetermined};
 
 /// The bytes of a stream determine its requests, and how it goes on after them.
@@ -20,8 +20,8 @@ pub fn a_cut_changes_nothing()
     ensures { ACutChangesNothing }
 {}
 
-/// The bytes that a session reads determine the requests, what is written to their cuts, and how the session ends,
-/// where the machine doesn't end it.
+/// The bytes that a session reads determine the requests, what is written to them at their moments and cuts, what is left
+/// in the journals, and how the session ends, where the machine doesn't end it.
 pub fn output_is_determined()
     ensures { OutputIsDetermined }
 {}
@@ -30,6 +30,22 @@ pub fn output_is_determined()
 /// all its requests.
 pub fn the_input_decides_the_end()
     ensures { TheInputDecidesTheEnd }
+{}
+
+/// The moments of a session's answered requests are those that its clock gave meanwhile, or each is the fixed one.
+pub fn moments_are_told()
+    ensures clock { TheClockTellsTheMoments }
+    ensures fixed { AFixedMomentIsEach }
+{}
+
+/// Where each journal is sound before a session, it is afterwards.
+pub fn sessions_keep_journals_sound()
+    ensures { SessionsKeepJournalsSound }
+{}
+
+/// Over sound journals the places of a session are above all tickets that stood before, and don't fall.
+pub fn places_are_fresh()
+    ensures { PlacesAreFresh }
 {}
 
 /// The definitions, at one request that creates a repository, come to the answer that is written out in

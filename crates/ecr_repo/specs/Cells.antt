@@ -1,6 +1,6 @@
 -- What a repository's name has, and what a call makes of it (Amazon ECR API Reference, the actions). Moments are in
 -- seconds.
-use Rattle.std.specs.Prelude.{◌≡◌, ℕ, false, List, [], Option, is_some, unwrap_or}
+use Rattle.std.specs.Prelude.{◌≡◌, ℕ, false, List, Option, is_some, unwrap_or}
 use Rattle.ecr_model.specs.declared.call.Call.{Call}
 use Rattle.ecr_model.specs.declared.journal.Limits.{Limits}
 use Rattle.ecr_model.specs.declared.journal.Line.{Line}
@@ -9,6 +9,7 @@ use Rattle.ecr_model.specs.declared.names.SiteId.{SiteId}
 use Rattle.ecr_model.specs.declared.reply.Described.{Described}
 use Rattle.ecr_model.specs.declared.repository.Presence.{Presence}
 use Rattle.ecr_model.specs.declared.repository.Repository.{Repository}
+use Rattle.ecr_model.specs.Contents.{AreContents}
 use Rattle.ecr_model.specs.Steps.{Turn, first_state, step, replay, IsSound}
 use Rattle.ecr_model.specs.Steps as steps
 use Rattle.ecr_blob_upload.specs.declared.call.Outcome.{Outcome}
@@ -22,23 +23,24 @@ repository_of present = record first_state { present = present }
 abbrev pub row_of : RepoKey → Presence → Described
 row_of key is = record { name = key.name; created = is.created; mutability = is.mutability }
 
--- this is what a call comes to: the reply, which names no content, whether the repository changes, and what it is then
+-- the outcome has the call's reply with its content, and says whether the repository changes; afterwards the repository is
+-- the call's
 pub record IsDone (o : steps.Outcome) (before after : Repository) (out : Outcome) : Type 0 where
   pub reply : out.reply ≡ o.reply
   pub changed : out.changed ≡ is_some o.after
-  pub blobs : out.blobs.items ≡ []
+  pub contents : AreContents out.reply out.blobs.items
   pub leaves : after ≡ unwrap_or o.after before
 
--- this is what the call comes to at that moment, whatever else the turn and the limits are
+-- the outcome is the call's at that moment, whatever else the turn and the limits are
 abbrev pub IsMade : RepoKey → ℕ → Call → Repository → Repository → Outcome → Type 0
 IsMade key moment call before after out = (limits : Limits) (ticket : ℕ) (destinations : List SiteId)
     → IsDone (step key limits before (turn_at ticket moment destinations) call) before after out
 
--- this is what the call is answered, whatever the turn and the limits are, and nothing changes
+-- the outcome is the call's, whatever the turn and the limits are, and nothing changes
 pub record IsAnswered (key : RepoKey) (call : Call) (repository : Repository) (out : Outcome) : Type 0 where
   pub reply : (limits : Limits) (turn : Turn) → out.reply ≡ (step key limits repository turn call).reply
   pub changed : out.changed ≡ false
-  pub blobs : out.blobs.items ≡ []
+  pub contents : AreContents out.reply out.blobs.items
 
 -- the journal is sound, and leads to the repository
 pub record IsKept (key : RepoKey) (limits : Limits) (journal : List Line) (repository : Repository) : Type 0 where

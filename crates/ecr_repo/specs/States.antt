@@ -9,7 +9,7 @@ use Rattle.ecr_model.specs.declared.names.RepoKey.{RepoKey}
 use Rattle.ecr_model.specs.declared.names.SiteId.{SiteId}
 use Rattle.ecr_model.specs.declared.reply.Reply.{Reply}
 use Rattle.ecr_model.specs.declared.repository.Repository.{Repository}
-use Rattle.ecr_model.specs.Steps.{Outcome, Turn, step, replay, line_of}
+use Rattle.ecr_model.specs.Steps.{Outcome, Turn, turn_of, step, replay, line_of}
 use Rattle.ecr_blob_upload.specs.declared.call.Load.{Load}
 use Rattle.ecr_blob_upload.specs.Loads.{FitsCall}
 
@@ -23,15 +23,15 @@ pub record State : Type 0 where
 abbrev pub repository_now : State → Repository
 repository_now state = replay state.key state.limits state.journal
 
--- a turn in which no upload is completed
+-- a turn in which no upload is completed, for a call without content
 abbrev pub turn_at : ℕ → ℕ → List SiteId → Turn
-turn_at ticket moment destinations = record { ticket = ticket; moment = moment; destinations = destinations; sealed = None }
+turn_at ticket moment destinations = turn_of ticket None (record { moment = moment; destinations = destinations; given = None })
 
--- what a call comes to in a turn
+-- the outcome of a call in a turn
 abbrev pub outcome_of : State → Turn → Call → Outcome
 outcome_of state turn call = step state.key state.limits (repository_now state) turn call
 
--- what the call is answered
+-- the reply to the call in a turn
 abbrev pub reply_to : State → Turn → Call → Reply
 reply_to state turn call = (outcome_of state turn call).reply
 
@@ -39,11 +39,12 @@ reply_to state turn call = (outcome_of state turn call).reply
 abbrev pub changes : State → Turn → Call → Bool
 changes state turn call = is_some (outcome_of state turn call).after
 
--- with that line behind the others
+-- the state with that line behind the others
 abbrev pub with_entry : State → Line → State
 with_entry state line = record state { journal = state.journal ++ line ∷ [] }
 
--- after a call: with its line, under that caller's number, where it changes the repository, and as before where it doesn't
+-- the state after a call: with its line, under that caller's number, where the call changes the repository, and as before
+-- where it doesn't
 abbrev pub after_call : State → ℕ → Turn → Call → State
 after_call state caller turn call =
     if changes state turn call then with_entry state (line_of caller turn call) else state

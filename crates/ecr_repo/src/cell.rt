@@ -1,5 +1,6 @@
 // What a repository's name has, and how each call changes it.
 ghost use Rattle.std.specs.Prelude.{◌≡◌, [], ◌∷◌, IfOk, OnErr, None, true, false};
+ghost use Rattle.ecr_model.specs.Contents.{AreContents};
 ghost use Rattle.ecr_model.specs.declared.reply.Reply.TheVariants as replies;
 ghost use Rattle.ecr_model.specs.Steps.{first_state, creates, deletes, describes, sets_mutability, same_mutability};
 ghost use Rattle.ecr_repo.specs.Cells.{IsDone, IsMade, IsAnswered, row_of};
@@ -174,7 +175,7 @@ fn described(alloc: Global, key: &RepoKey, is: Presence) -> Result<Reply, Mem>
 fn answered(alloc: Global, reply: Reply) -> Outcome
     ensures reply { result.reply ≡ reply }
     ensures changed { result.changed ≡ false }
-    ensures blobs { result.blobs.items ≡ [] }
+    ensures contents { AreContents result.reply result.blobs.items }
 {
     Outcome {
         reply,
@@ -187,7 +188,7 @@ fn answered(alloc: Global, reply: Reply) -> Outcome
 fn refused(alloc: Global, refusal: Refusal) -> Outcome
     ensures reply { result.reply ≡ replies.Refused refusal }
     ensures changed { result.changed ≡ false }
-    ensures blobs { result.blobs.items ≡ [] }
+    ensures contents { AreContents result.reply result.blobs.items }
 {
     answered(alloc, Reply::Refused(refusal))
 }
@@ -196,7 +197,7 @@ fn refused(alloc: Global, refusal: Refusal) -> Outcome
 fn changed(alloc: Global, reply: Reply) -> Outcome
     ensures reply { result.reply ≡ reply }
     ensures changed { result.changed ≡ true }
-    ensures blobs { result.blobs.items ≡ [] }
+    ensures contents { AreContents result.reply result.blobs.items }
 {
     Outcome {
         reply,

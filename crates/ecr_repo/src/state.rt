@@ -1,5 +1,6 @@
 // A repository's name with its journal.
 ghost use Rattle.std.specs.Prelude.{◌≡◌, ◌≤◌, ◌<◌, ◌∷◌, ◌++◌, [], false, IfOk, OnOk, OnErr, length, vec_len, vec_capacity, if◌then◌else◌};
+ghost use Rattle.ecr_model.specs.Contents.{AreContents};
 ghost use Rattle.ecr_model.specs.Journals.{past};
 ghost use Rattle.ecr_model.specs.Steps.{Turn, IsSound, line_of};
 ghost use Rattle.ecr_repo.specs.States.{AnswersOnly, Fits, turn_at, reply_to, changes, after_call};
@@ -64,7 +65,7 @@ impl RepoState {
         requires asks { AnswersOnly call.now }
         ensures reply { (turn : Turn) → IfOk result (λ out. out.reply ≡ reply_to self.now turn call.now) }
         ensures changed { IfOk result (λ out. out.changed ≡ false) }
-        ensures blobs { IfOk result (λ out. out.blobs.items ≡ []) }
+        ensures contents { IfOk result (λ out. AreContents out.reply out.blobs.items) }
     {
         self.cell.answer(alloc, &self.key, call)
     }
@@ -88,7 +89,7 @@ impl RepoState {
         requires fits { Fits call.now load destinations.items }
         ensures reply { IfOk result (λ out. out.reply ≡ reply_to self.old (turn_at ticket moment destinations.items) call.now) }
         ensures changed { IfOk result (λ out. out.changed ≡ changes self.old (turn_at ticket moment destinations.items) call.now) }
-        ensures blobs { IfOk result (λ out. out.blobs.items ≡ []) }
+        ensures contents { IfOk result (λ out. AreContents out.reply out.blobs.items) }
         ensures entered { OnOk result (self.new ≡ after_call self.old caller (turn_at ticket moment destinations.items) call.now) }
         ensures err { OnErr result (self.new ≡ self.old) }
     {

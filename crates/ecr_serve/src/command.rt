@@ -1,5 +1,5 @@
 // A command for one caller.
-ghost use Rattle.std.specs.Prelude.{◌≡◌, ◌<◌, ℕ, List, Option, length, map, string_bytes};
+ghost use Rattle.std.specs.Prelude.{◌≡◌, ◌<◌, [], ℕ, List, Option, length, map, string_bytes};
 ghost use Rattle.ecr_model.specs.Commands.{IsNoCommand, IsSession, RunsSession, SaysUsage, status_of, usage_lines};
 ghost use Rattle.ecr_model.specs.declared.names.SiteId.{SiteId};
 ghost use Rattle.ecr_http.specs.Sends.{Sends};
@@ -27,8 +27,9 @@ pub struct Ended {
 /// 1 to 64 different sites, as `us-east-1/111122223333`.
 ///
 /// A session reads requests from the source and writes the replies to the sink, each as soon as its request was
-/// answered. It begins with a registry in which nothing is, and which goes when it ends. Where a moment is given it is that of each answer, and the clock isn't asked; else the clock is asked once for
-/// each request. Other words are answered by the lines of usage.
+/// answered. It begins with a registry in which nothing is, and which goes when it ends. Where a moment is given it is
+/// that of each answer, and the clock isn't asked; else the clock is asked once for each request. Other words are
+/// answered by the lines of usage, and then nothing was answered and there are no cuts.
 pub fn solo<S: Source, K: Sink, C: Clock>(
     alloc: Global,
     words: &[String],
@@ -44,6 +45,7 @@ pub fn solo<S: Source, K: Sink, C: Clock>(
         (record { left = S.left source.old; held = K.held sink.old; told = C.told clock.old; read_faults = S.faults source.old; write_faults = K.faults sink.old })
         (record { left = S.left source.new; held = K.held sink.new; told = C.told clock.new; read_faults = S.faults source.new; write_faults = K.faults sink.new })
         result.end }
+    ensures no_cuts { IsNoCommand (map string_bytes words.now) → result.cuts.items ≡ [] }
 
     // What a session reads, answers and writes, and how it ends.
     ensures session { (fixed : Option ℕ) (sites : List SiteId) → IsSession (map string_bytes words.now) fixed sites → RunsSession sites fixed

@@ -12,7 +12,8 @@ use Rattle.ecr_model.specs.declared.refusal.Parameter.TheVariants.{RegistryId, N
 use Rattle.ecr_model.specs.declared.refusal.Refusal.TheVariants.{Serialization}
 use Rattle.ecr_model.specs.Actions.{Asked, Reading, asks, refuses, asked_by, unless_bad, typed_reading, body_reading, action_reading, reading, site_in, text_at, members_of, action_of}
 use Rattle.ecr_model.specs.Hosts.{first_site, first_with, named_site, registry_host, api_host, site_for, without_port}
-use Rattle.ecr_model.specs.Members.{are_typed, digits_value, document, first_bad, is_decimal, place_of, site_of, text_in, value_of}
+use Rattle.ecr_model.specs.Documents.{document}
+use Rattle.ecr_model.specs.Members.{are_typed, digits_value, first_bad, is_decimal, place_of, site_of, text_in, value_of}
 use Rattle.ecr_session.specs.Turns.{IsAskable}
 
 -- ---- the site is served

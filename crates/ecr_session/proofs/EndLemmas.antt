@@ -7,11 +7,10 @@ use Rattle.ecr_model.specs.declared.outcome.End.{End}
 use Rattle.ecr_model.specs.declared.outcome.End.TheVariants as ends
 use Rattle.ecr_model.specs.Replies.{bad_reply, long_reply, continue_reply, interim}
 use Rattle.ecr_model.specs.Scripts.{World}
-use Rattle.ecr_model.specs.Sessions as sessions
-use Rattle.ecr_model.specs.Sessions.{Account, Outside, Setting, AreMoments, Completed, CutOff, Ends, Serves, last_words, max_read, refusal_of, sent_to}
+use Rattle.ecr_model.specs.Sessions.{Account, Outside, Setting, Exchange, AreServed, Completed, CutOff, Ends, IsUnspent, Serviced, Serves, last_words, max_read, refusal_of, requests_of, sent_to, stands}
 use Rattle.ecr_model.specs.Stream.{Point, start, grown, Begins, StopsBy, Lacks, Tail, Ending, ended, closed, truncated, bad_at, long_at, more}
 use Rattle.ecr_model.proofs.StreamLemmas.{Begins-append, Begins-length}
-use Rattle.ecr_http.specs.Reading.{Nexts}
+use Rattle.ecr_http.specs.Reading.{Nexts, bytes_read}
 use Rattle.ecr_http.specs.Reading as reading
 use Rattle.ecr_http.specs.Sends.{Sends}
 use Rattle.ecr_http.specs.declared.events.Event.TheVariants as events
@@ -25,14 +24,24 @@ pub begins_grown : (read got : List ℕ) (requests : List Request) (point : Poin
     → Begins (start (read ++ got)) requests (grown point got)
 begins_grown read got requests point begins = Begins-append (start read) got requests point begins
 
+-- no more bytes were read than may be
+pub within_grown : (read got : List ℕ) (requests : List Request) (point : Point) → Begins (start read) requests point
+    → bytes_read (grown point got) ≤ max_read → length (read ++ got) ≤ max_read
+within_grown read got requests point begins within =
+    omega (arith, within, Begins-length (start (read ++ got)) requests (grown point got) (begins_grown read got requests point begins))
+
+-- fewer bytes were read than may be
+unspent_grown : (read got : List ℕ) (requests : List Request) (point : Point) → Begins (start read) requests point
+    → bytes_read (grown point got) < max_read → length (read ++ got) < max_read
+unspent_grown read got requests point begins within =
+    omega (arith, within, Begins-length (start (read ++ got)) requests (grown point got) (begins_grown read got requests point begins))
+
 -- nothing was asked of the clock
-serviced_kept : (set : Setting) (before mid after : Outside) (requests : List Request) (account : Account) (last : World)
-    → after.told ≡ mid.told → sessions.Serviced set before mid requests account last → sessions.Serviced set before after requests account last
-serviced_kept set before mid after requests account last told s = record {
-  clocked = subst (λ t. AreMoments set.fixed before.told t account.cuts account.moments) (sym told) s.clocked;
-  cuts_fit = s.cuts_fit;
-  placed = s.placed;
-  leaves = s.leaves;
+serviced_kept : (set : Setting) (before mid after : Outside) (exchanges : List Exchange) (account : Account) (last : World)
+    → after.told ≡ mid.told → Serviced set before mid exchanges account last → Serviced set before after exchanges account last
+serviced_kept set before mid after exchanges account last told s = record {
+  says = s.says;
+  served = subst (λ t. AreServed (stands set set.first before.told) exchanges (stands set last t)) (sym told) s.served;
 }
 
 -- ---- the ends of which all is known: all requests were answered, and this is what follows them
@@ -40,32 +49,36 @@ serviced_kept set before mid after requests account last told s = record {
 ends_by : (set : Setting) (before mid after : Outside) (point : Point) (account : Account) (last : World) (s : SoFar set before mid point account last)
     (got : List ℕ) (over : Bool) (tail : Tail) (end : End) → point.closed ≡ false → after.told ≡ mid.told → Consumes mid.left after.left got
     → Lacks over (grown point got) tail → (over ≡ true → IsAtEnd after.left) → Appends mid.held after.held (last_words tail) → Ends end tail.ending (length (s.read ++ got))
+    → bytes_read (grown point got) ≤ max_read → IsUnspent end tail.ending (length (s.read ++ got))
     → Completed set before after account last end
-ends_by set before mid after point account last s got over tail end opened told consumed lacks at_end sent fits = record {
+ends_by set before mid after point account last s got over tail end opened told consumed lacks at_end sent fits within unspent = record {
   read = s.read ++ got;
   over = over;
-  requests = s.requests;
+  exchanges = s.exchanges;
   tail = tail;
   consumed = Consumes-trans before.left mid.left after.left s.read got s.consumed consumed;
   at_end = at_end;
   reads = record {
     point = grown point got;
-    begins = begins_grown s.read got s.requests point s.begins;
+    begins = begins_grown s.read got (requests_of s.exchanges) point s.begins;
     stops = subst (λ (shut : Bool). StopsBy shut over (grown point got) tail) (sym opened) lacks;
   };
-  serviced = serviced_kept set before mid after s.requests account last told s.serviced;
-  sent = Appends-trans before.held mid.held after.held (sent_to set s.requests account) (last_words tail) s.sent sent;
+  serviced = serviced_kept set before mid after s.exchanges account last told s.serviced;
+  sent = Appends-trans before.held mid.held after.held (sent_to s.exchanges) (last_words tail) s.sent sent;
   ends = fits;
+  within = within_grown s.read got (requests_of s.exchanges) point s.begins within;
+  unspent = unspent;
 }
 
 -- where nothing is replied to what follows
 ends_silently : (set : Setting) (before mid after : Outside) (point : Point) (account : Account) (last : World) (s : SoFar set before mid point account last)
     (got : List ℕ) (over : Bool) (ending : Ending) (end : End) → point.closed ≡ false → after.told ≡ mid.told → Consumes mid.left after.left got
     → reading.Shows over (grown point got) mid.held after.held ending → refusal_of ending ≡ [] → (over ≡ true → IsAtEnd after.left) → Ends end ending (length (s.read ++ got))
+    → bytes_read (grown point got) ≤ max_read → IsUnspent end ending (length (s.read ++ got))
     → Completed set before after account last end
-ends_silently set before mid after point account last s got over ending end opened told consumed shows none at_end fits =
+ends_silently set before mid after point account last s got over ending end opened told consumed shows none at_end fits within unspent =
     ends_by set before mid after point account last s got over (record { due = shows.0; ending = ending }) end opened told consumed shows.1 at_end
-    (subst (λ l. Appends mid.held after.held (interim shows.0 ++ l)) (sym none) (subst (Appends mid.held after.held) (sym (append-nil (interim shows.0))) shows.2)) fits
+    (subst (λ l. Appends mid.held after.held (interim shows.0 ++ l)) (sym none) (subst (Appends mid.held after.held) (sym (append-nil (interim shows.0))) shows.2)) fits within unspent
 
 not_over : {P : Type 0} → false ≡ true → P
 not_over e = absurd (let no : false ≡ true = e in cc)
@@ -73,12 +86,12 @@ not_over e = absurd (let no : false ≡ true = e in cc)
 pub Serves-whole : (set : Setting) (before mid after : Outside) (point q : Point) (account : Account) (last : World) → SoFar set before mid point account last
     → point.closed ≡ false → Nexts mid.left mid.held point after.left after.held q events.End → after.told ≡ mid.told → Serves set before after account last ends.Whole
 Serves-whole set before mid after point q account last s opened n told =
-    ends_silently set before mid after point account last s n.got true ended ends.Whole opened told n.consumed n.gives.0 refl (λ e. n.gives.1) (inl refl)
+    ends_silently set before mid after point account last s n.got true ended ends.Whole opened told n.consumed n.gives.0 refl (λ e. n.gives.1) (inl refl) n.within (unspent_grown s.read n.got (requests_of s.exchanges) point s.begins n.unspent)
 
 pub Serves-truncated : (set : Setting) (before mid after : Outside) (point q : Point) (account : Account) (last : World) (at : ℕ) → SoFar set before mid point account last
     → point.closed ≡ false → Nexts mid.left mid.held point after.left after.held q (events.Truncated at) → after.told ≡ mid.told → Serves set before after account last (ends.Truncated at)
 Serves-truncated set before mid after point q account last at s opened n told =
-    ends_silently set before mid after point account last s n.got true (truncated at) (ends.Truncated at) opened told n.consumed n.gives.0 refl (λ e. n.gives.1) refl
+    ends_silently set before mid after point account last s n.got true (truncated at) (ends.Truncated at) opened told n.consumed n.gives.0 refl (λ e. n.gives.1) refl n.within (unspent_grown s.read n.got (requests_of s.exchanges) point s.begins n.unspent)
 
 pub Serves-fault : (set : Setting) (before mid after : Outside) (point q : Point) (account : Account) (last : World) → SoFar set before mid point account last
     → point.closed ≡ false → Nexts mid.left mid.held point after.left after.held q events.ReadFault → after.told ≡ mid.told → mid.read_faults < after.read_faults
@@ -86,16 +99,16 @@ pub Serves-fault : (set : Setting) (before mid after : Outside) (point q : Point
 Serves-fault set before mid after point q account last s opened n told rose =
     let later = s.reads_later in (
       omega arith,
-      ends_silently set before mid after point account last s n.got false more ends.ReadFault opened told n.consumed n.gives refl not_over refl,
+      ends_silently set before mid after point account last s n.got false more ends.ReadFault opened told n.consumed n.gives refl not_over refl n.within (unspent_grown s.read n.got (requests_of s.exchanges) point s.begins n.unspent),
     )
 
 pub Serves-spent : (set : Setting) (before mid after : Outside) (point q : Point) (account : Account) (last : World) → SoFar set before mid point account last
     → point.closed ≡ false → Nexts mid.left mid.held point after.left after.held q events.Spent → after.told ≡ mid.told → Serves set before after account last ends.Spent
 Serves-spent set before mid after point q account last s opened n told =
-    let all = Begins-length (start (s.read ++ n.got)) s.requests (grown point n.got) (begins_grown s.read n.got s.requests point s.begins) in
+    let all = Begins-length (start (s.read ++ n.got)) (requests_of s.exchanges) (grown point n.got) (begins_grown s.read n.got (requests_of s.exchanges) point s.begins) in
     let spent = n.gives.1 in
     let size : length (s.read ++ n.got) ≡ max_read = omega arith in
-    ends_silently set before mid after point account last s n.got false more ends.Spent opened told n.consumed n.gives.0 refl not_over (refl, size)
+    ends_silently set before mid after point account last s n.got false more ends.Spent opened told n.consumed n.gives.0 refl not_over (refl, size) n.within tt
 
 -- ---- no memory
 
@@ -103,15 +116,16 @@ pub Serves-mem : (set : Setting) (before mid after : Outside) (point q : Point) 
     → point.closed ≡ false → Nexts mid.left mid.held point after.left after.held q events.Mem → after.told ≡ mid.told → Serves set before after account last ends.Mem
 Serves-mem set before mid after point q account last s opened n told = record {
   read = s.read ++ n.got;
-  requests = s.requests;
+  exchanges = s.exchanges;
   point = grown point n.got;
+  within = within_grown s.read n.got (requests_of s.exchanges) point s.begins n.within;
   further = n.gives.0;
   consumed = Consumes-trans before.left mid.left after.left s.read n.got s.consumed n.consumed;
-  begins = begins_grown s.read n.got s.requests point s.begins;
+  begins = begins_grown s.read n.got (requests_of s.exchanges) point s.begins;
   goes_on = opened;
-  serviced = serviced_kept set before mid after s.requests account last told s.serviced;
+  serviced = serviced_kept set before mid after s.exchanges account last told s.serviced;
   told_to = n.gives.1;
-  sent = Appends-trans before.held mid.held after.held (sent_to set s.requests account) n.gives.0 s.sent n.gives.2;
+  sent = Appends-trans before.held mid.held after.held (sent_to s.exchanges) n.gives.0 s.sent n.gives.2;
 }
 
 -- there was no room for what is said, and nothing was read
@@ -120,15 +134,16 @@ pub Serves-no_room : (set : Setting) (before mid : Outside) (point : Point) (acc
 Serves-no_room set before mid point account other last s opened same =
     subst (λ a. Serves set before mid a last ends.Mem) (sym same) (record {
       read = s.read;
-      requests = s.requests;
+      exchanges = s.exchanges;
       point = point;
+      within = s.within;
       further = [];
       consumed = s.consumed;
       begins = s.begins;
       goes_on = opened;
       serviced = s.serviced;
       told_to = inl refl;
-      sent = subst (Appends before.held mid.held) (sym (append-nil (sent_to set s.requests account))) s.sent;
+      sent = subst (Appends before.held mid.held) (sym (append-nil (sent_to s.exchanges))) s.sent;
     })
 
 -- ---- a write that failed
@@ -143,18 +158,20 @@ Serves-untold set before mid after point q account last s opened n told rose =
       omega arith,
       record {
         read = s.read ++ n.got;
-        requests = s.requests;
+        exchanges = s.exchanges;
         point = grown point n.got;
-        done = sent_to set s.requests account;
+        done = sent_to s.exchanges;
         piece = continue_reply;
         taken = cut.0;
         lost = cut.1;
+        some = cut.4;
+        within = within_grown s.read n.got (requests_of s.exchanges) point s.begins n.within;
         consumed = Consumes-trans before.left mid.left after.left s.read n.got s.consumed n.consumed;
-        begins = begins_grown s.read n.got s.requests point s.begins;
-        serviced = serviced_kept set before mid after s.requests account last told s.serviced;
+        begins = begins_grown s.read n.got (requests_of s.exchanges) point s.begins;
+        serviced = serviced_kept set before mid after s.exchanges account last told s.serviced;
         is_last = inr (inl (opened, n.gives.0, refl, refl));
         parts = cut.2;
-        sent = Appends-trans before.held mid.held after.held (sent_to set s.requests account) cut.0 s.sent cut.3;
+        sent = Appends-trans before.held mid.held after.held (sent_to s.exchanges) cut.0 s.sent cut.3;
       },
     )
 
@@ -163,30 +180,33 @@ Serves-untold set before mid after point q account last s opened n told rose =
 refused : (set : Setting) (before mid between after : Outside) (point : Point) (account : Account) (last : World) (s : SoFar set before mid point account last)
     (got : List ℕ) (ending : Ending) (expected end : End) → point.closed ≡ false → Consumes mid.left after.left got → after.told ≡ mid.told
     → reading.Shows false (grown point got) mid.held between.held ending → SendsLast between.held after.held (refusal_of ending) expected end
-    → Ends expected ending (length (s.read ++ got)) → ((end ≡ expected) × Completed set before after account last expected) ⊎ ((end ≡ ends.WriteFault) × CutOff set before after account last)
-refused set before mid between after point account last s got ending expected end opened consumed told shows (inl done) fits =
+    → Ends expected ending (length (s.read ++ got)) → bytes_read (grown point got) ≤ max_read → IsUnspent expected ending (length (s.read ++ got))
+    → ((end ≡ expected) × Completed set before after account last expected) ⊎ ((end ≡ ends.WriteFault) × CutOff set before after account last)
+refused set before mid between after point account last s got ending expected end opened consumed told shows (inl done) fits within unspent =
     inl (
       done.0,
       ends_by set before mid after point account last s got false (record { due = shows.0; ending = ending }) expected opened told consumed shows.1 not_over
-          (Appends-trans mid.held between.held after.held (interim shows.0) (refusal_of ending) shows.2 done.1) fits,
+          (Appends-trans mid.held between.held after.held (interim shows.0) (refusal_of ending) shows.2 done.1) fits within unspent,
     )
-refused set before mid between after point account last s got ending expected end opened consumed told shows (inr cut) fits =
+refused set before mid between after point account last s got ending expected end opened consumed told shows (inr cut) fits within unspent =
     let tail : Tail = record { due = shows.0; ending = ending } in
-    let begins = begins_grown s.read got s.requests point s.begins in
+    let begins = begins_grown s.read got (requests_of s.exchanges) point s.begins in
     let sends : Sends between.held after.held (refusal_of ending) WriteFault = cut.1 in
     inr (
       cut.0,
       record {
         read = s.read ++ got;
-        requests = s.requests;
+        exchanges = s.exchanges;
         point = grown point got;
-        done = sent_to set s.requests account ++ interim shows.0;
+        done = sent_to s.exchanges ++ interim shows.0;
         piece = refusal_of ending;
         taken = sends.0;
         lost = sends.1;
+        some = sends.4;
+        within = within_grown s.read got (requests_of s.exchanges) point s.begins within;
         consumed = Consumes-trans before.left mid.left after.left s.read got s.consumed consumed;
         begins = begins;
-        serviced = serviced_kept set before mid after s.requests account last told s.serviced;
+        serviced = serviced_kept set before mid after s.exchanges account last told s.serviced;
         is_last = inr (inr (
           false,
           tail,
@@ -196,7 +216,7 @@ refused set before mid between after point account last s got ending expected en
         ));
         parts = sends.2;
         sent = Appends-trans before.held between.held after.held _ sends.0
-            (Appends-trans before.held mid.held between.held (sent_to set s.requests account) (interim shows.0) s.sent shows.2) sends.3;
+            (Appends-trans before.held mid.held between.held (sent_to s.exchanges) (interim shows.0) s.sent shows.2) sends.3;
       },
     )
 
@@ -217,7 +237,7 @@ pub Serves-bad : (set : Setting) (before mid between after : Outside) (point q :
 Serves-bad set before mid between after point q account last at end s opened n left told sends later cause =
     let so_far = s.writes_later in
     serves_refused set before between after account last (ends.Bad at) end (λ done. done) (omega arith) cause
-    (refused set before mid between after point account last s n.got (bad_at at) (ends.Bad at) end opened (subst (λ l. Consumes mid.left l n.got) (sym left) n.consumed) told n.gives sends refl)
+    (refused set before mid between after point account last s n.got (bad_at at) (ends.Bad at) end opened (subst (λ l. Consumes mid.left l n.got) (sym left) n.consumed) told n.gives sends refl n.within tt)
 
 pub Serves-long : (set : Setting) (before mid between after : Outside) (point q : Point) (account : Account) (last : World) (at limit : ℕ) (end : End) → SoFar set before mid point account last
     → point.closed ≡ false → Nexts mid.left mid.held point between.left between.held q (events.TooLong at limit) → after.left ≡ between.left → after.told ≡ mid.told
@@ -226,7 +246,7 @@ pub Serves-long : (set : Setting) (before mid between after : Outside) (point q 
 Serves-long set before mid between after point q account last at limit end s opened n left told sends later cause =
     let so_far = s.writes_later in
     serves_refused set before between after account last (ends.TooLong at limit) end (λ done. done) (omega arith) cause
-    (refused set before mid between after point account last s n.got (long_at at limit) (ends.TooLong at limit) end opened (subst (λ l. Consumes mid.left l n.got) (sym left) n.consumed) told n.gives sends refl)
+    (refused set before mid between after point account last s n.got (long_at at limit) (ends.TooLong at limit) end opened (subst (λ l. Consumes mid.left l n.got) (sym left) n.consumed) told n.gives sends refl n.within tt)
 
 -- ---- the last request closes the session
 
@@ -238,12 +258,14 @@ Completed-closed set before after point account last s shut =
     record {
       read = s.read;
       over = false;
-      requests = s.requests;
+      exchanges = s.exchanges;
       tail = tail;
       consumed = s.consumed;
       at_end = not_over;
       reads = record { point = point; begins = s.begins; stops = subst (λ (c : Bool). StopsBy c false point tail) (sym shut) refl };
       serviced = s.serviced;
-      sent = subst (Appends before.held after.held) (sym (append-nil (sent_to set s.requests account))) s.sent;
+      sent = subst (Appends before.held after.held) (sym (append-nil (sent_to s.exchanges))) s.sent;
       ends = inr refl;
+      within = s.within;
+      unspent = tt;
     }

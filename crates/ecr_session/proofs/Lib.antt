@@ -1,6 +1,7 @@
 pub mod AnswerLemmas
 pub mod AskLemmas
 pub mod EndLemmas
+pub mod FreshLemmas
 pub mod FixedLemmas
 pub mod HostLemmas
 pub mod PlainLemmas

@@ -1,125 +1,143 @@
 -- How a session goes on, request after request.
 use Rattle.std.proofs.Common.{◌≡◌, ℕ, ◌<◌, ◌≤◌, inl, false, List, [], ◌∷◌, ◌++◌, map, refl, sym, ap, ◌∙◌, subst, arith, append_assoc, None, Some, Option}
-use Rattle.std.proofs.KnownBytes.{Appends-trans, Consumes-trans, Keeps-trans}
-use Rattle.std.proofs.lemmas.List.{map_push}
+use Rattle.std.proofs.KnownBytes.{Appends-trans, Consumes-trans}
+use Rattle.std.proofs.lemmas.List.{map-append}
 use Rattle.std.specs.Io.KnownBytes.{Consumes, Appends}
 use Rattle.ecr_model.specs.declared.http.Request.{Request}
 use Rattle.ecr_model.specs.declared.journal.Place.{Place}
 use Rattle.ecr_model.specs.declared.outcome.Cut.{Cut}
 use Rattle.ecr_model.specs.declared.outcome.End.{End}
 use Rattle.ecr_model.specs.declared.outcome.End.TheVariants as ends
-use Rattle.ecr_model.specs.Replies.{interim}
+use Rattle.ecr_model.specs.Replies.{interim, is_head}
 use Rattle.ecr_model.specs.Scripts.{World}
-use Rattle.ecr_model.specs.Sessions as sessions
-use Rattle.ecr_model.specs.Sessions.{Account, Outside, Setting, AreMoments, Counts, CutOff, IsPlaced, is_waiting, left_by, sent_to, written}
-use Rattle.ecr_model.specs.Stream.{Point, start, grown, past, Begins}
-use Rattle.ecr_model.proofs.SessionLemmas.{AreCuts-lengths, AreCuts-more, ArePlaces-more, left_after-more, replies-more, replies-beyond}
+use Rattle.ecr_model.specs.Sessions.{Account, Outside, Setting, Exchange, Standing, CutOff, IsServed, IsTime, Serviced, account_of, answer_to, is_waiting, requests_of, sent_to, stands}
+use Rattle.ecr_model.specs.Stream.{Point, start, closes, grown, past, Begins}
+use Rattle.ecr_model.proofs.SessionLemmas.{Chain-more, sent_to-more}
 use Rattle.ecr_model.proofs.StreamLemmas.{Begins-more}
 use Rattle.ecr_desk.specs.Desks.{Seen}
 use Rattle.ecr_http.specs.Reading.{Nexts}
 use Rattle.ecr_http.specs.Sends.{Sends}
 use Rattle.ecr_http.specs.declared.events.Event.TheVariants as events
+use Rattle.ecr_http.specs.declared.reply.HttpReply.{HttpReply}
 use Rattle.ecr_http.specs.declared.write.Sent.{Sent}
 use Rattle.ecr_http.specs.declared.write.Sent.TheVariants.{Done, WriteFault}
-use Rattle.ecr_session.specs.Serving.{IsTime, SoFar, HasCome, GoesOn, Serviced, ServesRequest, account_of, with_request}
+use Rattle.ecr_session.specs.Serving.{SoFar, HasCome, GoesOn, Answered, Answers, ServesRequest, account_in, reply_bytes, standing_of, with_exchange}
 use Rattle.ecr_session.specs.declared.session.Session.{Session}
-use Rattle.ecr_session.proofs.EndLemmas.{begins_grown, Completed-closed}
+use Rattle.ecr_session.proofs.EndLemmas.{begins_grown, within_grown, Completed-closed}
 
 -- room for more changes nothing
-pub HasCome-room : (set : Setting) (before mid : Outside) (old now : Session) (seen : Seen) → account_of now ≡ account_of old → now.reader ≡ old.reader
+pub HasCome-room : (set : Setting) (before mid : Outside) (old now : Session) (seen : Seen) → account_in now ≡ account_in old → now.reader ≡ old.reader
     → HasCome set before mid old seen → HasCome set before mid now seen
 HasCome-room set before mid old now seen account reader s = record {
   realm_stays = s.realm_stays;
   so_far = subst (λ a. SoFar set before mid now.reader a seen.world) (sym account)
-      (subst (λ (p : Point). SoFar set before mid p (account_of old) seen.world) (sym reader) s.so_far);
+      (subst (λ (p : Point). SoFar set before mid p (account_in old) seen.world) (sym reader) s.so_far);
 }
 
 -- ---- a request
 
--- one more moment
-AreMoments-more : (fixed : Option ℕ) (before mid after : Option (List ℕ)) (cuts : List Cut) (cut : Cut) (moments : List ℕ) (moment : ℕ)
-    → AreMoments fixed before mid cuts moments → IsTime fixed mid after moment → AreMoments fixed before after (cuts ++ cut ∷ []) (moments ++ moment ∷ [])
-AreMoments-more None before mid after cuts cut moments moment all one = Appends-trans before mid after moments (moment ∷ []) all one
-AreMoments-more (Some fixed) before mid after cuts cut moments moment all one = (
-  ap (λ l. l ++ moment ∷ []) all.0 ∙ ap (λ m. map (λ (c : Cut). fixed) cuts ++ m ∷ []) one.0 ∙ sym (map_push (λ (c : Cut). fixed) cuts cut),
-  Keeps-trans before mid after all.1 one.1,
-)
+-- the account of exchanges and one more
+account_of-more : (es : List Exchange) (e : Exchange) → account_of (es ++ e ∷ []) ≡ with_exchange (account_of es) e
+account_of-more es e =
+    ap (λ l. record { moments = l; places = map (λ x. x.places) (es ++ e ∷ []); cuts = map (λ x. x.cut) (es ++ e ∷ []) }) (map-append (λ (x : Exchange). x.moment) es (e ∷ []))
+    ∙ ap (λ l. record { moments = map (λ x. x.moment) es ++ e.moment ∷ []; places = l; cuts = map (λ x. x.cut) (es ++ e ∷ []) }) (map-append (λ (x : Exchange). x.places) es (e ∷ []))
+    ∙ ap (λ l. record { moments = map (λ x. x.moment) es ++ e.moment ∷ []; places = map (λ x. x.places) es ++ e.places ∷ []; cuts = l }) (map-append (λ (x : Exchange). x.cut) es (e ∷ []))
 
--- what one request more comes to, from where the others led
-record OneMore (set : Setting) (request : Request) (before after : Outside) (account : Account) (old now : World) (moment : ℕ) (places : List Place) (cut : Cut) : Type 0 where
-  timed : IsTime set.fixed before.told after.told moment
-  counts : Counts set.realm old moment request cut
-  placed : IsPlaced set.realm old moment cut request places
-  leaves : now ≡ left_by set.realm old moment cut request
+-- the requests of exchanges and one more
+requests_of-more : (es : List Exchange) (e : Exchange) (request : Request) → e.request ≡ request → requests_of (es ++ e ∷ []) ≡ requests_of es ++ request ∷ []
+requests_of-more es e request is = map-append (λ (x : Exchange). x.request) es (e ∷ []) ∙ ap (λ r. requests_of es ++ r ∷ []) is
 
-one_more : (set : Setting) (request : Request) (before mid after : Outside) (old now : Session) (seen later : Seen) (sent : Sent) → seen.realm ≡ set.realm → mid.told ≡ before.told
-    → (v : Serviced set.fixed request mid old seen after now later sent) → OneMore set request before after (account_of old) seen.world later.world v.moment v.places v.cut
-one_more set request before mid after old now seen later sent realm told v = record {
-  timed = subst (λ t. IsTime set.fixed t after.told v.moment) told v.timed;
-  counts = subst (λ r. Counts r seen.world v.moment request v.cut) realm v.counts;
-  placed = subst (λ r. IsPlaced r seen.world v.moment v.cut request v.places) realm v.placed;
-  leaves = v.leaves ∙ ap (λ r. left_by r seen.world v.moment v.cut request) realm;
-}
+-- the step of an exchange, between standings of the setting
+step_in : (set : Setting) (mid between after : Outside) (seen later : Seen) (e : Exchange) → seen.realm ≡ set.realm → between.told ≡ mid.told
+    → IsServed (standing_of set.fixed between seen) e (standing_of set.fixed after later)
+    → IsServed (stands set seen.world mid.told) e (stands set later.world after.told)
+step_in set mid between after seen later e realm told v =
+    let first : standing_of set.fixed between seen ≡ stands set seen.world mid.told =
+    ap (λ r. record { realm = r; world = seen.world; fixed = set.fixed; told = between.told }) realm
+    ∙ ap (λ t. record { realm = set.realm; world = seen.world; fixed = set.fixed; told = t }) told in
+    let last : standing_of set.fixed after later ≡ stands set later.world after.told =
+    ap (λ r. record { realm = r; world = later.world; fixed = set.fixed; told = after.told }) (v.realm_stays ∙ realm) in
+    subst (λ (s : Standing). IsServed (stands set seen.world mid.told) e s) last
+    (subst (λ (s : Standing). IsServed s e (standing_of set.fixed after later)) first v)
 
 -- one request more was serviced
-serviced_more : (set : Setting) (before mid after : Outside) (requests : List Request) (account : Account) (old now : World) (request : Request) (moment : ℕ) (places : List Place) (cut : Cut)
-    → sessions.Serviced set before mid requests account old → OneMore set request mid after account old now moment places cut
-    → sessions.Serviced set before after (requests ++ request ∷ []) (with_request account moment places cut) now
-serviced_more set before mid after requests account old now request moment places cut s o =
-    let lengths = AreCuts-lengths set.realm set.first requests account.moments account.cuts s.cuts_fit in
-    record {
-      clocked = AreMoments-more set.fixed before.told mid.told after.told account.cuts cut account.moments moment s.clocked o.timed;
-      cuts_fit = AreCuts-more set.realm set.first requests account.moments account.cuts request moment cut lengths.0 s.cuts_fit
-          (subst (λ w. Counts set.realm w moment request cut) s.leaves o.counts);
-      placed = ArePlaces-more set.realm set.first requests account.moments account.cuts account.places request moment cut places lengths.0 lengths.1 s.placed
-          (subst (λ w. IsPlaced set.realm w moment cut request places) s.leaves o.placed);
-      leaves = o.leaves ∙ ap (λ w. left_by set.realm w moment cut request) s.leaves
-          ∙ sym (left_after-more set.realm set.first requests account.moments account.cuts request moment cut lengths.0 lengths.1);
-    }
+serviced_more : (set : Setting) (before mid between after : Outside) (es : List Exchange) (e : Exchange) (account : Account) (seen later : Seen)
+    → seen.realm ≡ set.realm → between.told ≡ mid.told → Serviced set before mid es account seen.world
+    → IsServed (standing_of set.fixed between seen) e (standing_of set.fixed after later)
+    → Serviced set before after (es ++ e ∷ []) (with_exchange account e) later.world
+serviced_more set before mid between after es e account seen later realm told s v = record {
+  says = ap (λ a. with_exchange a e) s.says ∙ sym (account_of-more es e);
+  served = Chain-more IsServed (stands set set.first before.told) (stands set seen.world mid.told) (stands set later.world after.told) es e s.served
+      (step_in set mid between after seen later e realm told v);
+}
 
--- what is written to one request more
-sent_to-more : (set : Setting) (before after : Outside) (requests : List Request) (account : Account) (last : World) (request : Request) (moment : ℕ) (places : List Place) (cut : Cut)
-    → sessions.Serviced set before after requests account last
-    → sent_to set (requests ++ request ∷ []) (with_request account moment places cut)
-    ≡ sent_to set requests account ++ (interim (is_waiting request) ++ written set.realm last moment cut request)
-sent_to-more set before after requests account last request moment places cut s =
-    let lengths = AreCuts-lengths set.realm set.first requests account.moments account.cuts s.cuts_fit in
-    replies-more set.realm set.first requests account.moments account.cuts request moment cut lengths.0 lengths.1
-    ∙ ap (λ w. sent_to set requests account ++ (interim (is_waiting request) ++ written set.realm w moment cut request)) (sym s.leaves)
+-- the requests so far, and the one that was answered
+begins_more : (read got : List ℕ) (es : List Exchange) (e : Exchange) (point : Point) (request : Request) (n : ℕ) → e.request ≡ request
+    → Begins (start (read ++ got)) (requests_of es ++ request ∷ []) (past (grown point got) request n)
+    → Begins (start (read ++ got)) (requests_of (es ++ e ∷ [])) (past (grown point got) request n)
+begins_more read got es e point request n is begins =
+    subst (λ (rs : List Request). Begins (start (read ++ got)) rs (past (grown point got) request n)) (sym (requests_of-more es e request is)) begins
 
--- the reply is that of the setting
-sends_in : (set : Setting) (request : Request) (mid after : Outside) (old now : Session) (seen later : Seen) (sent : Sent) → seen.realm ≡ set.realm
-    → (v : Serviced set.fixed request mid old seen after now later sent) → Sends mid.held after.held (written set.realm seen.world v.moment v.cut request) sent
-sends_in set request mid after old now seen later sent realm v =
-    subst (λ r. Sends mid.held after.held (written r seen.world v.moment v.cut request) sent) realm v.sends
+-- a moment, a list of places and a cut behind the others
+pub account_in-pushed : (old now : Session) (e : Exchange)
+    → now.moments.items ≡ old.moments.items ++ e.moment ∷ [] → map (λ v. v.items) now.places.items ≡ map (λ v. v.items) old.places.items ++ e.places ∷ []
+    → now.cuts.items ≡ old.cuts.items ++ e.cut ∷ [] → account_in now ≡ with_exchange (account_in old) e
+account_in-pushed old now e moments places cuts = cc
+
+-- an answer, with its moment and its reply as bytes, is an exchange
+pub Answered-by : (fixed : Option ℕ) (request : Request) (before after : Outside) (old now : Session) (seen later : Seen) (sent : Sent)
+    (moment : ℕ) (reply : Option HttpReply) (places : List Place) (cut : Cut)
+    → IsTime fixed before.told after.told moment → Answers seen later moment request reply places cut
+    → account_in now ≡ with_exchange (account_in old) (record { request = request; moment = moment; places = places; cut = cut; bytes = reply_bytes (is_head request) (closes request) reply })
+    → now.reader ≡ old.reader → after.left ≡ before.left
+    → Sends before.held after.held (reply_bytes (is_head request) (closes request) reply) sent
+    → Answered fixed request before old seen after now later sent
+Answered-by fixed request before after old now seen later sent moment reply places cut timed a added reader left sends = record {
+  exchange = record { request = request; moment = moment; places = places; cut = cut; bytes = reply_bytes (is_head request) (closes request) reply };
+  request_is = refl;
+  served = record {
+    realm_stays = a.realm_stays;
+    fixed_stays = refl;
+    timed = timed;
+    counts = a.counts;
+    placed = a.placed;
+    bytes = a.bytes;
+    leaves = a.leaves;
+  };
+  added = added;
+  reader = reader;
+  left = left;
+  sends = sends;
+}
 
 -- all of the reply was sent
 HasCome-serviced : (set : Setting) (before mid between after : Outside) (point : Point) (old now : Session) (seen later : Seen) (request : Request)
-    → seen.realm ≡ set.realm → SoFar set before mid point (account_of old) seen.world
+    → seen.realm ≡ set.realm → SoFar set before mid point (account_in old) seen.world
     → point.closed ≡ false → Nexts mid.left mid.held point between.left between.held old.reader (events.Request request) → between.told ≡ mid.told
-    → Serviced set.fixed request between old seen after now later Done
+    → Answered set.fixed request between old seen after now later Done
     → mid.read_faults ≤ after.read_faults → mid.write_faults ≤ after.write_faults → HasCome set before after now later
 HasCome-serviced set before mid between after point old now seen later request realm s opened n told v reads writes =
-    let rs = s.requests in
+    let es = s.exchanges in
+    let e = v.exchange in
     let reads_so_far = s.reads_later in
     let writes_so_far = s.writes_later in
-    let account = account_of old in
     let due = interim (is_waiting request) in
-    let reply = written set.realm seen.world v.moment v.cut request in
-    let o = one_more set request mid between after old now seen later Done realm told v in
-    let sends : Appends between.held after.held reply = sends_in set request between after old now seen later Done realm v in
+    let answer : Appends mid.held after.held (answer_to e) =
+    subst (λ (r : Request). Appends mid.held after.held (interim (is_waiting r) ++ e.bytes)) (sym v.request_is)
+    (Appends-trans mid.held between.held after.held due e.bytes n.gives.3 v.sends) in
     record {
-      realm_stays = v.realm_stays ∙ realm;
+      realm_stays = v.served.realm_stays ∙ realm;
       so_far = subst (λ a. SoFar set before after now.reader a later.world) (sym v.added) (record {
         read = s.read ++ n.got;
-        requests = rs ++ request ∷ [];
+        exchanges = es ++ e ∷ [];
+        within = within_grown s.read n.got (requests_of es) point s.begins n.within;
         consumed = subst (λ l. Consumes before.left l (s.read ++ n.got)) (sym v.left) (Consumes-trans before.left mid.left between.left s.read n.got s.consumed n.consumed);
-        begins = subst (λ (x : Point). Begins (start (s.read ++ n.got)) (rs ++ request ∷ []) x) (sym (v.reader ∙ n.gives.2))
-            (Begins-more (start (s.read ++ n.got)) rs (grown point n.got) request n.gives.0 (begins_grown s.read n.got rs point s.begins) opened n.gives.1);
-        serviced = serviced_more set before mid after rs account seen.world later.world request v.moment v.places v.cut s.serviced o;
-        sent = subst (Appends before.held after.held) (sym (sent_to-more set before mid rs account seen.world request v.moment v.places v.cut s.serviced))
-            (Appends-trans before.held mid.held after.held (sent_to set rs account) (due ++ reply) s.sent
-            (Appends-trans mid.held between.held after.held due reply n.gives.3 sends));
+        begins = subst (λ (x : Point). Begins (start (s.read ++ n.got)) (requests_of (es ++ e ∷ [])) x) (sym (v.reader ∙ n.gives.2))
+            (begins_more s.read n.got es e point request n.gives.0 v.request_is
+            (Begins-more (start (s.read ++ n.got)) (requests_of es) (grown point n.got) request n.gives.0 (begins_grown s.read n.got (requests_of es) point s.begins) opened n.gives.1));
+        serviced = serviced_more set before mid between after es e (account_in old) seen later realm told s.serviced v.served;
+        sent = subst (Appends before.held after.held) (sym (sent_to-more es e))
+            (Appends-trans before.held mid.held after.held (sent_to es) (answer_to e) s.sent answer);
         reads_later = omega arith;
         writes_later = omega arith;
       });
@@ -127,43 +145,36 @@ HasCome-serviced set before mid between after point old now seen later request r
 
 -- a part of the reply was sent
 CutOff-serviced : (set : Setting) (before mid between after : Outside) (point : Point) (old now : Session) (seen later : Seen) (request : Request)
-    → seen.realm ≡ set.realm → SoFar set before mid point (account_of old) seen.world
+    → seen.realm ≡ set.realm → SoFar set before mid point (account_in old) seen.world
     → point.closed ≡ false → Nexts mid.left mid.held point between.left between.held old.reader (events.Request request) → between.told ≡ mid.told
-    → Serviced set.fixed request between old seen after now later WriteFault
-    → CutOff set before after (account_of now) later.world
+    → Answered set.fixed request between old seen after now later WriteFault
+    → CutOff set before after (account_in now) later.world
 CutOff-serviced set before mid between after point old now seen later request realm s opened n told v =
-    let rs = s.requests in
-    let account = account_of old in
-    let lengths = AreCuts-lengths set.realm set.first rs account.moments account.cuts s.serviced.cuts_fit in
-    let first = sent_to set rs account in
+    let es = s.exchanges in
+    let e = v.exchange in
     let due = interim (is_waiting request) in
-    let reply = written set.realm seen.world v.moment v.cut request in
-    let o = one_more set request mid between after old now seen later WriteFault realm told v in
-    let sends : Sends between.held after.held reply WriteFault = sends_in set request between after old now seen later WriteFault realm v in
+    let sends : Sends between.held after.held e.bytes WriteFault = v.sends in
     subst (λ a. CutOff set before after a later.world) (sym v.added) (record {
       read = s.read ++ n.got;
-      requests = rs ++ request ∷ [];
+      exchanges = es ++ e ∷ [];
       point = past (grown point n.got) request n.gives.0;
-      done = first ++ due;
-      piece = reply;
+      done = sent_to es ++ due;
+      piece = e.bytes;
       taken = sends.0;
       lost = sends.1;
+      some = sends.4;
+      within = within_grown s.read n.got (requests_of es) point s.begins n.within;
       consumed = subst (λ l. Consumes before.left l (s.read ++ n.got)) (sym v.left) (Consumes-trans before.left mid.left between.left s.read n.got s.consumed n.consumed);
-      begins = Begins-more (start (s.read ++ n.got)) rs (grown point n.got) request n.gives.0 (begins_grown s.read n.got rs point s.begins) opened n.gives.1;
-      serviced = serviced_more set before mid after rs account seen.world later.world request v.moment v.places v.cut s.serviced o;
-      is_last = inl (
-        rs,
-        request,
-        refl,
-        ap (λ l. l ++ due) (sym (replies-beyond set.realm set.first rs account.moments account.cuts (v.moment ∷ []) (v.cut ∷ []) lengths.0 lengths.1)),
-        append_assoc first due reply ∙ sym (sent_to-more set before mid rs account seen.world request v.moment v.places v.cut s.serviced),
-      );
+      begins = begins_more s.read n.got es e point request n.gives.0 v.request_is
+          (Begins-more (start (s.read ++ n.got)) (requests_of es) (grown point n.got) request n.gives.0 (begins_grown s.read n.got (requests_of es) point s.begins) opened n.gives.1);
+      serviced = serviced_more set before mid between after es e (account_in old) seen later realm told s.serviced v.served;
+      is_last = inl (es, e, refl, ap (λ (r : Request). sent_to es ++ interim (is_waiting r)) (sym v.request_is), refl);
       parts = sends.2;
-      sent = Appends-trans before.held between.held after.held (first ++ due) sends.0 (Appends-trans before.held mid.held between.held first due s.sent n.gives.3) sends.3;
+      sent = Appends-trans before.held between.held after.held (sent_to es ++ due) sends.0 (Appends-trans before.held mid.held between.held (sent_to es) due s.sent n.gives.3) sends.3;
     })
 
 pub GoesOn-request : (set : Setting) (before mid between after : Outside) (point : Point) (old now : Session) (seen later : Seen) (request : Request) (end : Option End)
-    → seen.realm ≡ set.realm → SoFar set before mid point (account_of old) seen.world
+    → seen.realm ≡ set.realm → SoFar set before mid point (account_in old) seen.world
     → point.closed ≡ false → Nexts mid.left mid.held point between.left between.held old.reader (events.Request request) → between.told ≡ mid.told
     → ServesRequest set.fixed request between old seen after now later end
     → mid.read_faults ≤ after.read_faults → mid.write_faults ≤ between.write_faults → between.write_faults ≤ after.write_faults → (end ≡ Some ends.WriteFault → between.write_faults < after.write_faults)
@@ -176,22 +187,16 @@ GoesOn-request set before mid between after point old now seen later request (So
     let come = HasCome-serviced set before mid between after point old now seen later request realm s opened n told v.0 reads (omega arith) in
     record {
       realm_stays = come.realm_stays;
-      serves = Completed-closed set before after now.reader (account_of now) later.world come.so_far
+      serves = Completed-closed set before after now.reader (account_in now) later.world come.so_far
           (ap (λ (x : Point). x.closed) (v.0.reader ∙ n.gives.2) ∙ v.1);
     }
 GoesOn-request set before mid between after point old now seen later request (Some ends.WriteFault) realm s opened n told v reads told_later writes cause =
     let rose = cause refl in
     let so_far = s.writes_later in
     record {
-      realm_stays = v.realm_stays ∙ realm;
+      realm_stays = v.served.realm_stays ∙ realm;
       serves = (omega arith, CutOff-serviced set before mid between after point old now seen later request realm s opened n told v);
     }
-GoesOn-request set before mid between after point old now seen later request (Some ends.Mem) realm s opened n told v reads told_later writes cause = absurd v
-GoesOn-request set before mid between after point old now seen later request (Some ends.Usage) realm s opened n told v reads told_later writes cause = absurd v
-GoesOn-request set before mid between after point old now seen later request (Some ends.ReadFault) realm s opened n told v reads told_later writes cause = absurd v
-GoesOn-request set before mid between after point old now seen later request (Some (ends.Truncated at)) realm s opened n told v reads told_later writes cause = absurd v
-GoesOn-request set before mid between after point old now seen later request (Some (ends.Bad at)) realm s opened n told v reads told_later writes cause = absurd v
-GoesOn-request set before mid between after point old now seen later request (Some (ends.TooLong at limit)) realm s opened n told v reads told_later writes cause = absurd v
-GoesOn-request set before mid between after point old now seen later request (Some ends.Spent) realm s opened n told v reads told_later writes cause = absurd v
+GoesOn-request set before mid between after point old now seen later request (Some _) realm s opened n told v reads told_later writes cause = absurd v
 
 -- ---- entries

@@ -1,35 +1,29 @@
 -- How a session begins.
-use Rattle.std.proofs.Common.{◌≡◌, ℕ, inl, List, [], map, refl, sym, ap, subst, arith, None, Some, Option}
-use Rattle.std.proofs.KnownBytes.{Appends-nil, Consumes-nil, Keeps-refl}
+use Rattle.std.proofs.Common.{◌≡◌, ◌≤◌, ℕ, inl, List, [], length, map, refl, sym, ap, subst, arith, None, Some, Option}
+use Rattle.std.proofs.KnownBytes.{Appends-nil, Consumes-nil}
 use Rattle.ecr_model.specs.declared.journal.Place.{Place}
 use Rattle.ecr_model.specs.declared.outcome.Cut.{Cut}
 use Rattle.ecr_model.specs.declared.outcome.End.{End}
 use Rattle.ecr_model.specs.declared.outcome.End.TheVariants as ends
-use Rattle.ecr_model.specs.Sessions as sessions
-use Rattle.ecr_model.specs.Sessions.{Account, Outside, Setting, AreMoments, Answered, Serves, left_after, replies}
+use Rattle.ecr_model.specs.Sessions.{Account, Outside, Setting, Answered, Serviced, Serves, max_read}
 use Rattle.ecr_model.specs.Stream.{start}
 use Rattle.ecr_desk.specs.Desks.{Seen}
-use Rattle.ecr_session.specs.Serving.{SoFar, HasCome, IsFresh, account_of}
+use Rattle.ecr_session.specs.Serving.{SoFar, HasCome, IsFresh, account_in}
 use Rattle.ecr_session.specs.declared.session.Session.{Session}
 
--- the moments of no request
-AreMoments-nil : (fixed : Option ℕ) (told : Option (List ℕ)) → AreMoments fixed told told [] []
-AreMoments-nil None told = Appends-nil told
-AreMoments-nil (Some moment) told = (refl, Keeps-refl told)
-
--- nothing is said of no request
+-- the account of no request
 no_account : Account
 no_account = record { moments = []; places = []; cuts = [] }
 
+-- no byte is within the number that may be read
+nothing_read : length (let none : List ℕ = [] in none) ≤ max_read
+unfolding max_read
+nothing_read = omega arith
+
 -- no request was serviced
-nothing_serviced : (set : Setting) (before : Outside) → sessions.Serviced set before before [] no_account set.first
-unfolding left_after no_account
-nothing_serviced set before = record {
-  clocked = AreMoments-nil set.fixed before.told;
-  cuts_fit = tt;
-  placed = tt;
-  leaves = refl;
-}
+nothing_serviced : (set : Setting) (before : Outside) → Serviced set before before [] no_account set.first
+unfolding no_account
+nothing_serviced set before = record { says = refl; served = refl }
 
 -- lists without items say nothing
 pub Account-nil : (moments : List ℕ) (places : List (List Place)) (cuts : List Cut) → moments ≡ [] → places ≡ [] → cuts ≡ []
@@ -37,7 +31,7 @@ pub Account-nil : (moments : List ℕ) (places : List (List Place)) (cuts : List
 Account-nil moments places cuts a b c = cc
 
 -- a fresh session says nothing
-account-fresh : (session : Session) → IsFresh session → account_of session ≡ no_account
+account-fresh : (session : Session) → IsFresh session → account_in session ≡ no_account
 unfolding no_account
 account-fresh session fresh =
     Account-nil session.moments.items (map (λ v. v.items) session.places.items) session.cuts.items fresh.moments (ap (map (λ v. v.items)) fresh.places) fresh.cuts
@@ -45,13 +39,14 @@ account-fresh session fresh =
 -- a session begins where nothing was read
 pub HasCome-start : (set : Setting) (before : Outside) (session : Session) (seen : Seen) → IsFresh session
     → seen.realm ≡ set.realm → seen.world ≡ set.first → HasCome set before before session seen
-unfolding replies no_account
+unfolding no_account
 HasCome-start set before session seen fresh realm first = record {
   realm_stays = realm;
   so_far = subst (λ account. SoFar set before before session.reader account seen.world) (sym (account-fresh session fresh))
       (subst (λ world. SoFar set before before session.reader no_account world) (sym first) (record {
         read = [];
-        requests = [];
+        exchanges = [];
+        within = nothing_read;
         consumed = Consumes-nil before.left;
         begins = fresh.reader;
         serviced = nothing_serviced set before;
@@ -64,11 +59,12 @@ HasCome-start set before session seen fresh realm first = record {
 -- a session that isn't begun has told nothing
 pub Serves-nothing : (set : Setting) (before : Outside) (account : Account) (end : End) → account ≡ record { moments = []; places = []; cuts = [] } → end ≡ ends.Mem
     → Serves set before before account set.first end
-unfolding replies no_account
+unfolding no_account
 Serves-nothing set before account end none mem =
     subst (λ e. Serves set before before account set.first e) (sym mem) (subst (λ a. Answered set before before a set.first) (sym none) (record {
       read = [];
-      requests = [];
+      exchanges = [];
+      within = nothing_read;
       point = start [];
       further = [];
       consumed = Consumes-nil before.left;

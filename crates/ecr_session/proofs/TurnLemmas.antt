@@ -8,15 +8,14 @@ use Rattle.ecr_model.specs.declared.journal.Place.{Place}
 use Rattle.ecr_model.specs.declared.names.Name.{Name}
 use Rattle.ecr_model.specs.declared.names.RepoKey.{RepoKey}
 use Rattle.ecr_model.specs.declared.names.SiteId.{SiteId}
-use Rattle.ecr_model.specs.declared.call.Call.TheVariants.{Describe}
 use Rattle.ecr_model.specs.declared.refusal.Refusal.{Refusal}
 use Rattle.ecr_model.specs.declared.reply.Described.{Described as Row}
 use Rattle.ecr_model.specs.declared.reply.Reply.{Reply}
 use Rattle.ecr_model.specs.declared.reply.Reply.TheVariants.{Created, Deleted, Described, MutabilitySet, Refused}
-use Rattle.ecr_model.specs.Requests.{call_script, key_at, rows_in, is_refused, named_script, listed_script}
+use Rattle.ecr_model.specs.Requests.{Decided, call_script, one_script, rows_in, is_refused, named_script, listed_script}
 use Rattle.ecr_model.specs.ScriptLaws.{RunsThen}
-use Rattle.ecr_model.specs.Scripts.{Realm, Script, ends, then_do, run}
-use Rattle.ecr_model.proofs.ScriptLemmas.{run-then_do, run_to-none}
+use Rattle.ecr_model.specs.Scripts.{Realm, Script, ends, then_do, run, count_changed}
+use Rattle.ecr_model.proofs.ScriptLemmas.{run-then_do, run_to-none, count_changed-append, count_changed-run}
 use Rattle.ecr_desk.specs.Desks.{Seen, Ran, Stopped, run_on, entries_of, first_entries}
 use Rattle.ecr_desk.proofs.DeskLemmas.{Ran-ends, Ran-then, Stopped-first, Stopped-then, Stopped-whole, first_entries-le}
 use Rattle.ecr_session.specs.Turns.{RanWith, StoppedWith, LeadsTo, IsDescribed, refusal_in}
@@ -41,7 +40,13 @@ StoppedWith-nothing seen script old now same = record {
     left = sym (run_to-none seen.realm seen.world script);
     counted = omega arith;
   };
+  changed = omega arith;
 }
+
+-- nothing was seen to change
+pub StoppedWith-unchanged : {A : Type 0} (before after : Seen) (script : Script A) (old now : List Place) → after ≡ before → now ≡ old → StoppedWith before after script old now
+StoppedWith-unchanged before after script old now same places =
+    subst (λ (s : Seen). StoppedWith before s script old now) (sym same) (StoppedWith-nothing before script old now places)
 
 -- turns were made of which no place is told
 pub StoppedWith-untold : {A : Type 0} (before after : Seen) (script : Script A) (old now : List Place) → now ≡ old → Stopped before after script (entries_of before script)
@@ -52,14 +57,15 @@ StoppedWith-untold before after script old now same stopped = record {
   added = same ∙ sym (append-nil old);
   parts = refl;
   stopped = stopped;
+  changed = omega arith;
 }
 
 -- of a call on a repository at most the first turn was made
-pub StoppedWith-call : (before after : Seen) (key : RepoKey) (call : Call) (moment : ℕ) (old now : List Place) → now ≡ old
-    → Stopped before after (call_script key call moment) (first_entries before key call) → StoppedWith before after (call_script key call moment) old now
-StoppedWith-call before after key call moment old now same stopped =
-    let most = first_entries-le before key call moment in
-    StoppedWith-untold before after (call_script key call moment) old now same (record {
+pub StoppedWith-call : (before after : Seen) (key : RepoKey) (call : Call) (given : Option (List ℕ)) (moment : ℕ) (old now : List Place) → now ≡ old
+    → Stopped before after (call_script key call given moment) (first_entries before key call) → StoppedWith before after (call_script key call given moment) old now
+StoppedWith-call before after key call given moment old now same stopped =
+    let most = first_entries-le before key call given moment in
+    StoppedWith-untold before after (call_script key call given moment) old now same (record {
       entries = stopped.entries;
       within = omega (arith, stopped.within, most);
       realm_stays = stopped.realm_stays;
@@ -67,15 +73,23 @@ StoppedWith-call before after key call moment old now same stopped =
       counted = stopped.counted;
     })
 
+-- the places of a whole script say that an entry was added as often as one was
+changed_in : {A : Type 0} (before after : Seen) (script : Script A) (answer : A) (places : List Place) → Ran before after script answer places
+    → count_changed places ≤ entries_of before script
+changed_in before after script answer places ran =
+    omega (arith, ap count_changed ran.placed, count_changed-run before.realm before.world script)
+
 -- all turns were made, and the answer wasn't told
 pub StoppedWith-whole : {A : Type 0} (before after : Seen) (script : Script A) (answer : A) (old now : List Place) → RanWith before after script answer old now
     → StoppedWith before after script old now
+unfolding Stopped-whole
 StoppedWith-whole before after script answer old now w = record {
   places = w.places;
   rest = [];
   added = w.added;
   parts = sym w.ran.placed ∙ sym (append-nil w.places);
   stopped = Stopped-whole before after script answer w.places w.ran;
+  changed = changed_in before after script answer w.places w.ran;
 }
 
 -- all turns were made, and neither the answer nor a place was told
@@ -107,6 +121,7 @@ RanWith-then before mid after script next a b old more now one other = record {
 
 pub StoppedWith-first : {A B : Type 0} (before after : Seen) (script : Script A) (next : A → Script B) (old now : List Place)
     → StoppedWith before after script old now → StoppedWith before after (then_do script next) old now
+unfolding Stopped-first
 StoppedWith-first before after script next old now s =
     let both : RunsThen before.realm before.world script next = run-then_do before.realm before.world script next in
     let further = (run before.realm (run_on before script).world (next (run_on before script).answer)).places in
@@ -116,10 +131,12 @@ StoppedWith-first before after script next old now s =
       added = s.added;
       parts = both.places_are ∙ ap (λ ps. ps ++ further) s.parts ∙ append_assoc s.places s.rest further;
       stopped = Stopped-first before after script next (entries_of before script) (omega arith) s.stopped;
+      changed = s.changed;
     }
 
 pub StoppedWith-then : {A B : Type 0} (before mid after : Seen) (script : Script A) (next : A → Script B) (a : A) (old more now : List Place)
     → RanWith before mid script a old more → StoppedWith mid after (next a) more now → StoppedWith before after (then_do script next) old now
+unfolding Stopped-then
 StoppedWith-then before mid after script next a old more now one other = record {
   places = one.places ++ other.places;
   rest = other.rest;
@@ -127,6 +144,7 @@ StoppedWith-then before mid after script next a old more now one other = record 
   parts = places_of-then before mid script next a one.places one.ran ∙ ap (λ ps. one.places ++ ps) other.parts
       ∙ sym (append_assoc one.places other.places other.rest);
   stopped = Stopped-then before mid after script next a one.places (entries_of mid (next a)) one.ran (omega arith) other.stopped;
+  changed = omega (arith, count_changed-append one.places other.places, changed_in before mid script a one.places one.ran, other.changed);
 }
 
 -- ---- a whole script, turn by turn
@@ -149,12 +167,16 @@ named_at s moment rows names i name inside is =
 named_step : SiteId → ℕ → List Row → List Name → Reply → Script Reply
 named_step s moment rows names reply = cond (is_refused reply) (ends reply) (named_script s moment (rows ++ rows_in reply) names)
 
+-- the same of a decided description
+after_one : SiteId → ℕ → List Row → List Name → Decided → Script Reply
+after_one s moment rows names d = named_step s moment rows names d.reply
+
 LeadsTo-named : (before now after : Seen) (whole : Script Reply) (s : SiteId) (moment : ℕ) (rows rows_after : List Row) (names : List Name) (i : ℕ) (name : Name) (refusal : Option Refusal) (old places more : List Place)
     → i < length names → name ≡ get_or names i name → LeadsTo before now whole (named_script s moment rows (drop i names)) old places
-    → (d : IsDescribed now after s name moment rows rows_after refusal places more) → LeadsTo before after whole (named_step s moment rows (drop (i + 1) names) d.reply) old more
-unfolding named_script named_step
+    → (d : IsDescribed now after s name moment rows rows_after refusal places more) → LeadsTo before after whole (named_step s moment rows (drop (i + 1) names) d.decided.reply) old more
+unfolding named_script named_step after_one
 LeadsTo-named before now after whole s moment rows rows_after names i name refusal old places more inside is to d =
-    LeadsTo-then before now after whole (call_script (key_at s name) Describe moment) (named_step s moment rows (drop (i + 1) names)) d.reply old places more
+    LeadsTo-then before now after whole (one_script s moment name) (after_one s moment rows (drop (i + 1) names)) d.decided old places more
     (subst (λ rest. LeadsTo before now whole rest old places) (named_at s moment rows names i name inside is) to) d.ran
 
 -- a description that isn't refused
@@ -162,45 +184,39 @@ named_step-on : (s : SiteId) (moment : ℕ) (rows : List Row) (names : List Name
     → named_step s moment rows names reply ≡ named_script s moment (rows ++ rows_in reply) names
 unfolding named_step
 named_step-on s moment rows names (Refused refusal) none = absurd (let no : None ≡ Some refusal = none in cc)
-named_step-on s moment rows names (Created created mutability) none = refl
-named_step-on s moment rows names (Deleted created mutability) none = refl
-named_step-on s moment rows names (Described others next) none = refl
-named_step-on s moment rows names (MutabilitySet mutability) none = refl
+named_step-on s moment rows names _ none = refl
 
 -- one that is
 named_step-refused : (s : SiteId) (moment : ℕ) (rows : List Row) (names : List Name) (reply : Reply) (refusal : Refusal) → Some refusal ≡ refusal_in reply
     → named_step s moment rows names reply ≡ ends (Refused refusal)
 unfolding named_step
 named_step-refused s moment rows names (Refused other) refusal some = ap (λ (r : Refusal). ends (Refused r)) (let same : Some refusal ≡ Some other = some in cc)
-named_step-refused s moment rows names (Created created mutability) refusal some = absurd (let no : Some refusal ≡ None = some in cc)
-named_step-refused s moment rows names (Deleted created mutability) refusal some = absurd (let no : Some refusal ≡ None = some in cc)
-named_step-refused s moment rows names (Described others next) refusal some = absurd (let no : Some refusal ≡ None = some in cc)
-named_step-refused s moment rows names (MutabilitySet mutability) refusal some = absurd (let no : Some refusal ≡ None = some in cc)
+named_step-refused s moment rows names _ refusal some = absurd (let no : Some refusal ≡ None = some in cc)
 
 pub LeadsTo-named_on : (before now after : Seen) (whole : Script Reply) (s : SiteId) (moment : ℕ) (rows rows_after : List Row) (names : List Name) (i : ℕ) (name : Name) (old places more : List Place)
     → i < length names → name ≡ get_or names i name → LeadsTo before now whole (named_script s moment rows (drop i names)) old places
     → IsDescribed now after s name moment rows rows_after None places more → LeadsTo before after whole (named_script s moment rows_after (drop (i + 1) names)) old more
 LeadsTo-named_on before now after whole s moment rows rows_after names i name old places more inside is to d =
     subst (λ r. LeadsTo before after whole (named_script s moment r (drop (i + 1) names)) old more) (sym d.rows)
-    (subst (λ rest. LeadsTo before after whole rest old more) (named_step-on s moment rows (drop (i + 1) names) d.reply d.refused)
+    (subst (λ rest. LeadsTo before after whole rest old more) (named_step-on s moment rows (drop (i + 1) names) d.decided.reply d.refused)
     (LeadsTo-named before now after whole s moment rows rows_after names i name None old places more inside is to d))
 
 pub RanWith-named_refused : (before now after : Seen) (whole : Script Reply) (s : SiteId) (moment : ℕ) (rows rows_after : List Row) (names : List Name) (i : ℕ) (name : Name) (refusal : Refusal) (old places more : List Place)
     → i < length names → name ≡ get_or names i name → LeadsTo before now whole (named_script s moment rows (drop i names)) old places
     → IsDescribed now after s name moment rows rows_after (Some refusal) places more → RanWith before after whole (Refused refusal) old more
 RanWith-named_refused before now after whole s moment rows rows_after names i name refusal old places more inside is to d =
-    (subst (λ rest. LeadsTo before after whole rest old more) (named_step-refused s moment rows (drop (i + 1) names) d.reply refusal d.refused)
+    (subst (λ rest. LeadsTo before after whole rest old more) (named_step-refused s moment rows (drop (i + 1) names) d.decided.reply refusal d.refused)
     (LeadsTo-named before now after whole s moment rows rows_after names i name (Some refusal) old places more inside is to d)).ran after (Refused refusal) more
     (RanWith-ends after (Refused refusal) more)
 
 pub StoppedWith-named : (before now after : Seen) (whole : Script Reply) (s : SiteId) (moment : ℕ) (rows : List Row) (names : List Name) (i : ℕ) (name : Name) (old places more : List Place)
     → i < length names → name ≡ get_or names i name → LeadsTo before now whole (named_script s moment rows (drop i names)) old places
-    → StoppedWith now after (call_script (key_at s name) Describe moment) places more → StoppedWith before after whole old more
-unfolding named_script named_step
+    → StoppedWith now after (one_script s moment name) places more → StoppedWith before after whole old more
+unfolding named_script named_step after_one
 StoppedWith-named before now after whole s moment rows names i name old places more inside is to stopped =
     to.stopped after more
     (subst (λ rest. StoppedWith now after rest places more) (sym (named_at s moment rows names i name inside is))
-    (StoppedWith-first now after (call_script (key_at s name) Describe moment) (named_step s moment rows (drop (i + 1) names)) places more stopped))
+    (StoppedWith-first now after (one_script s moment name) (after_one s moment rows (drop (i + 1) names)) places more stopped))
 
 pub RanWith-named_end : (before now : Seen) (whole : Script Reply) (s : SiteId) (moment : ℕ) (rows : List Row) (names : List Name) (i : ℕ) (old places : List Place)
     → length names ≤ i → LeadsTo before now whole (named_script s moment rows (drop i names)) old places → RanWith before now whole (Described rows None) old places
@@ -222,17 +238,17 @@ pub LeadsTo-listed : (before now after : Seen) (whole : Script Reply) (s : SiteI
 unfolding listed_script
 LeadsTo-listed before now after whole s moment next rows rows_after names i name refusal old places more inside is to d =
     subst (λ r. LeadsTo before after whole (listed_script s moment next r (drop (i + 1) names)) old more) (sym d.rows)
-    (LeadsTo-then before now after whole (call_script (key_at s name) Describe moment) (λ reply. listed_script s moment next (rows ++ rows_in reply) (drop (i + 1) names)) d.reply old places more
+    (LeadsTo-then before now after whole (one_script s moment name) (λ d. listed_script s moment next (rows ++ rows_in d.reply) (drop (i + 1) names)) d.decided old places more
     (subst (λ rest. LeadsTo before now whole rest old places) (listed_at s moment next rows names i name inside is) to) d.ran)
 
 pub StoppedWith-listed : (before now after : Seen) (whole : Script Reply) (s : SiteId) (moment : ℕ) (next : Option ℕ) (rows : List Row) (names : List Name) (i : ℕ) (name : Name) (old places more : List Place)
     → i < length names → name ≡ get_or names i name → LeadsTo before now whole (listed_script s moment next rows (drop i names)) old places
-    → StoppedWith now after (call_script (key_at s name) Describe moment) places more → StoppedWith before after whole old more
+    → StoppedWith now after (one_script s moment name) places more → StoppedWith before after whole old more
 unfolding listed_script
 StoppedWith-listed before now after whole s moment next rows names i name old places more inside is to stopped =
     to.stopped after more
     (subst (λ rest. StoppedWith now after rest places more) (sym (listed_at s moment next rows names i name inside is))
-    (StoppedWith-first now after (call_script (key_at s name) Describe moment) (λ reply. listed_script s moment next (rows ++ rows_in reply) (drop (i + 1) names)) places more stopped))
+    (StoppedWith-first now after (one_script s moment name) (λ d. listed_script s moment next (rows ++ rows_in d.reply) (drop (i + 1) names)) places more stopped))
 
 pub RanWith-listed_end : (before now : Seen) (whole : Script Reply) (s : SiteId) (moment : ℕ) (next : Option ℕ) (rows : List Row) (names : List Name) (i : ℕ) (old places : List Place)
     → length names ≤ i → LeadsTo before now whole (listed_script s moment next rows (drop i names)) old places → RanWith before now whole (Described rows next) old places
@@ -249,10 +265,10 @@ OnErr-always (Ok a) P holds = tt
 OnErr-always (Err e) P holds = holds
 
 -- a call on a repository that is known by another word
-pub StoppedWith-key : (before after : Seen) (key other : RepoKey) (call : Call) (moment : ℕ) (answer : Reply) (old now : List Place) → key ≡ other
-    → RanWith before after (call_script key call moment) answer old now → StoppedWith before after (call_script other call moment) old now
-StoppedWith-key before after key other call moment answer old now same w =
-    subst (λ k. StoppedWith before after (call_script k call moment) old now) same (StoppedWith-whole before after (call_script key call moment) answer old now w)
+pub StoppedWith-key : (before after : Seen) (key other : RepoKey) (call : Call) (given : Option (List ℕ)) (moment : ℕ) (answer : Decided) (old now : List Place) → key ≡ other
+    → RanWith before after (call_script key call given moment) answer old now → StoppedWith before after (call_script other call given moment) old now
+StoppedWith-key before after key other call given moment answer old now same w =
+    subst (λ k. StoppedWith before after (call_script k call given moment) old now) same (StoppedWith-whole before after (call_script key call given moment) answer old now w)
 
 -- the served sites stay
 pub Contains-described : (now after : Seen) (s : SiteId) (name : Name) (moment : ℕ) (rows rows_after : List Row) (refusal : Option Refusal) (places more : List Place)

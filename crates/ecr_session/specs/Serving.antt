@@ -1,16 +1,16 @@
--- How far a session has come, and what a request's answer is sent as. Moments are in seconds.
-use Rattle.std.specs.Prelude.{◌≡◌, ◌<◌, ℕ, ◌+◌, ◌≤◌, Bool, true, false, List, [], ◌∷◌, ◌++◌, ◌⊎◌, Option, None, Some, map, vec_len, vec_capacity}
+-- How far a session has come, and the bytes as which a request's answer is sent. Moments are in seconds.
+use Rattle.std.specs.Prelude.{◌≡◌, ◌<◌, ℕ, ◌+◌, ◌≤◌, Bool, true, false, List, [], ◌∷◌, ◌++◌, ◌⊎◌, Option, None, Some, length, map, vec_len, vec_capacity}
 use Rattle.std.specs.List.{sum_by}
-use Rattle.std.specs.Io.KnownBytes.{Consumes, Appends, Keeps}
+use Rattle.std.specs.Io.KnownBytes.{Consumes, Appends}
 use Rattle.ecr_model.specs.declared.http.Request.{Request}
 use Rattle.ecr_model.specs.declared.journal.Place.{Place}
+use Rattle.ecr_model.specs.declared.names.Digest.{Digest}
 use Rattle.ecr_model.specs.declared.outcome.Cut.{Cut}
 use Rattle.ecr_model.specs.declared.outcome.End.{End}
 use Rattle.ecr_model.specs.declared.outcome.End.TheVariants as ends
 use Rattle.ecr_model.specs.Replies.{failed_reply, is_head}
 use Rattle.ecr_model.specs.Scripts.{World}
-use Rattle.ecr_model.specs.Sessions.{Account, Outside, Setting, Counts, IsPlaced, Serves, left_by, sent_to, written}
-use Rattle.ecr_model.specs.Sessions as sessions
+use Rattle.ecr_model.specs.Sessions.{Account, Outside, Setting, Counts, Exchange, IsPlaced, IsServed, Serviced, Serves, Standing, left_by, max_read, requests_of, sent_to, written}
 use Rattle.ecr_model.specs.Stream.{Point, start, closes, Begins}
 use Rattle.ecr_desk.specs.Desks.{Seen}
 use Rattle.ecr_http.specs.Replies as http
@@ -25,9 +25,9 @@ abbrev pub reply_bytes : Bool → Bool → Option HttpReply → List ℕ
 reply_bytes bare close None = failed_reply bare close
 reply_bytes bare close (Some reply) = http.reply_bytes reply
 
--- the cut of a request that completes no upload
-abbrev pub cut_of : ℕ → Bool → Cut
-cut_of entries failed = record { entries = entries; failed = failed; sealed = None }
+-- the cut of an answered request
+abbrev pub cut_of : ℕ → Bool → Option Digest → Cut
+cut_of entries failed sealed = record { entries = entries; failed = failed; sealed = sealed }
 
 -- the reply, the places and the cut are those of the request, and what is on the desk afterwards is what it leaves
 pub record Answers (before after : Seen) (moment : ℕ) (request : Request) (reply : Option HttpReply) (places : List Place) (cut : Cut) : Type 0 where
@@ -38,30 +38,25 @@ pub record Answers (before after : Seen) (moment : ℕ) (request : Request) (rep
   pub counts : Counts before.realm before.world moment request cut
   pub placed : IsPlaced before.realm before.world moment cut request places
 
--- the moment of an answer: the fixed one, or the one that the clock gave for it
-abbrev pub IsTime : Option ℕ → Option (List ℕ) → Option (List ℕ) → ℕ → Type 0
-IsTime (Some fixed) before after moment = (moment ≡ fixed) × Keeps before after
-IsTime None before after moment = Appends before after (moment ∷ [])
-
 -- ---- what a session says
 
--- what it says of its answered requests
-abbrev pub account_of : Session → Account
-account_of session = record {
+-- the account of its answered requests
+abbrev pub account_in : Session → Account
+account_in session = record {
   moments = session.moments.items;
   places = map (λ v. v.items) session.places.items;
   cuts = session.cuts.items;
 }
 
--- what is said of one request more
-abbrev pub with_request : Account → ℕ → List Place → Cut → Account
-with_request account moment places cut = record {
-  moments = account.moments ++ moment ∷ [];
-  places = account.places ++ places ∷ [];
-  cuts = account.cuts ++ cut ∷ [];
+-- the account with one exchange more
+abbrev pub with_exchange : Account → Exchange → Account
+with_exchange account e = record {
+  moments = account.moments ++ e.moment ∷ [];
+  places = account.places ++ e.places ∷ [];
+  cuts = account.cuts ++ e.cut ∷ [];
 }
 
--- how many entries the requests of those cuts added
+-- the number of entries that the requests of those cuts added
 abbrev pub entries_in : List Cut → ℕ
 entries_in cuts = sum_by (λ cut. cut.entries) cuts
 
@@ -84,60 +79,54 @@ pub record IsFresh (session : Session) : Type 0 where
 -- and left
 pub record SoFar (set : Setting) (before after : Outside) (point : Point) (account : Account) (last : World) : Type 0 where
   pub read : List ℕ
-  pub requests : List Request
+  pub exchanges : List Exchange
   pub consumed : Consumes before.left after.left read
-  pub begins : Begins (start read) requests point
-  pub serviced : sessions.Serviced set before after requests account last
-  pub sent : Appends before.held after.held (sent_to set requests account)
+  pub within : length read ≤ max_read
+  pub begins : Begins (start read) (requests_of exchanges) point
+  pub serviced : Serviced set before after exchanges account last
+  pub sent : Appends before.held after.held (sent_to exchanges)
   pub reads_later : before.read_faults ≤ after.read_faults
   pub writes_later : before.write_faults ≤ after.write_faults
 
 -- the same of a session over a desk
 pub record HasCome (set : Setting) (before after : Outside) (session : Session) (seen : Seen) : Type 0 where
   pub realm_stays : seen.realm ≡ set.realm
-  pub so_far : SoFar set before after session.reader (account_of session) seen.world
+  pub so_far : SoFar set before after session.reader (account_in session) seen.world
 
 -- the session ended like that
 pub record HasEnded (set : Setting) (before after : Outside) (session : Session) (seen : Seen) (end : End) : Type 0 where
   pub realm_stays : seen.realm ≡ set.realm
-  pub serves : Serves set before after (account_of session) seen.world end
+  pub serves : Serves set before after (account_in session) seen.world end
 
 -- the session goes on, and isn't closed, or ends like that
 abbrev pub GoesOn : Setting → Outside → Outside → Session → Seen → Option End → Type 0
 GoesOn set before after session seen None = HasCome set before after session seen × (session.reader.closed ≡ false)
 GoesOn set before after session seen (Some end) = HasEnded set before after session seen end
 
--- a request was answered at that moment, what is said of it stands behind the rest, and the reply was sent, or a part of it
-pub record Serviced (fixed : Option ℕ) (request : Request) (before : Outside) (old : Session) (seen : Seen) (after : Outside) (now : Session) (later : Seen) (sent : Sent) : Type 0 where
-  pub moment : ℕ
-  pub places : List Place
-  pub cut : Cut
-  pub timed : IsTime fixed before.told after.told moment
-  pub added : account_of now ≡ with_request (account_of old) moment places cut
-  pub realm_stays : later.realm ≡ seen.realm
-  pub leaves : later.world ≡ left_by seen.realm seen.world moment cut request
-  pub counts : Counts seen.realm seen.world moment request cut
-  pub placed : IsPlaced seen.realm seen.world moment cut request places
+-- the standing of a session over a desk, between two requests
+abbrev pub standing_of : Option ℕ → Outside → Seen → Standing
+standing_of fixed outside seen = record { realm = seen.realm; world = seen.world; fixed = fixed; told = outside.told }
+
+-- a request was answered, its exchange stands in the account behind the others, and the reply was sent, or a part of it
+pub record Answered (fixed : Option ℕ) (request : Request) (before : Outside) (old : Session) (seen : Seen) (after : Outside) (now : Session) (later : Seen) (sent : Sent) : Type 0 where
+  pub exchange : Exchange
+  pub request_is : exchange.request ≡ request
+  pub served : IsServed (standing_of fixed before seen) exchange (standing_of fixed after later)
+  pub added : account_in now ≡ with_exchange (account_in old) exchange
   pub reader : now.reader ≡ old.reader
   pub left : after.left ≡ before.left
-  pub sends : Sends before.held after.held (written seen.realm seen.world moment cut request) sent
+  pub sends : Sends before.held after.held exchange.bytes sent
 
 -- the reply was sent, and the session ends where the request closes it; or a part of the reply was
 abbrev pub ServesRequest : Option ℕ → Request → Outside → Session → Seen → Outside → Session → Seen → Option End → Type 0
 ServesRequest fixed request before old seen after now later None =
-    Serviced fixed request before old seen after now later Done × (closes request ≡ false)
+    Answered fixed request before old seen after now later Done × (closes request ≡ false)
 ServesRequest fixed request before old seen after now later (Some ends.Whole) =
-    Serviced fixed request before old seen after now later Done × (closes request ≡ true)
+    Answered fixed request before old seen after now later Done × (closes request ≡ true)
 ServesRequest fixed request before old seen after now later (Some ends.WriteFault) =
-    Serviced fixed request before old seen after now later WriteFault
-ServesRequest fixed request before old seen after now later (Some ends.Mem) = ⊥
-ServesRequest fixed request before old seen after now later (Some ends.Usage) = ⊥
-ServesRequest fixed request before old seen after now later (Some ends.ReadFault) = ⊥
-ServesRequest fixed request before old seen after now later (Some (ends.Truncated at)) = ⊥
-ServesRequest fixed request before old seen after now later (Some (ends.Bad at)) = ⊥
-ServesRequest fixed request before old seen after now later (Some (ends.TooLong at limit)) = ⊥
-ServesRequest fixed request before old seen after now later (Some ends.Spent) = ⊥
+    Answered fixed request before old seen after now later WriteFault
+ServesRequest fixed request before old seen after now later (Some _) = ⊥
 
--- the reply to what is no request was sent, and the session ends like that, or a part of the reply was
+-- the reply to bytes that are no request was sent, and the session ends like that, or a part of the reply was
 abbrev pub SendsLast : Option (List ℕ) → Option (List ℕ) → List ℕ → End → End → Type 0
 SendsLast before after reply last end = ((end ≡ last) × Appends before after reply) ⊎ ((end ≡ ends.WriteFault) × Sends before after reply WriteFault)

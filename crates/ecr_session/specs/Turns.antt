@@ -1,18 +1,18 @@
 -- What a request's turns came to on a desk, with their places behind those of earlier turns.
-use Rattle.std.specs.Prelude.{◌≡◌, ◌<◌, ℕ, ◌^◌, Bool, List, ◌++◌, Option, None, Some, Contains}
+use Rattle.std.specs.Prelude.{◌≡◌, ◌<◌, ◌≤◌, ℕ, ◌^◌, Bool, List, ◌++◌, Option, None, Some, Contains}
 use Rattle.ecr_model.specs.declared.journal.Place.{Place}
+use Rattle.ecr_model.specs.declared.names.Digest.{Digest}
 use Rattle.ecr_model.specs.declared.names.Name.{Name}
 use Rattle.ecr_model.specs.declared.names.SiteId.{SiteId}
-use Rattle.ecr_model.specs.declared.call.Call.TheVariants.{Describe}
 use Rattle.ecr_model.specs.declared.refusal.Refusal.{Refusal}
 use Rattle.ecr_model.specs.declared.reply.Described.{Described as Row}
 use Rattle.ecr_model.specs.declared.reply.Reply.{Reply}
-use Rattle.ecr_model.specs.declared.reply.Reply.TheVariants.{Created, Deleted, Described, MutabilitySet, Refused}
+use Rattle.ecr_model.specs.declared.reply.Reply.TheVariants.{Refused}
 use Rattle.ecr_model.specs.Actions.{Asked, cell, site, many}
 use Rattle.ecr_model.specs.Posed.{Posed, posed_bytes, posed_script}
 use Rattle.ecr_model.specs.Rendered.{site_asked}
-use Rattle.ecr_model.specs.Requests.{call_script, key_at, rows_in}
-use Rattle.ecr_model.specs.Scripts.{Script}
+use Rattle.ecr_model.specs.Requests.{Decided, one_script, rows_in}
+use Rattle.ecr_model.specs.Scripts.{Script, count_changed}
 use Rattle.ecr_desk.specs.Desks.{Seen, Ran, Stopped, run_on, entries_of}
 use Rattle.ecr_http.specs.Replies.{reply_bytes}
 use Rattle.ecr_http.specs.declared.reply.HttpReply.{HttpReply}
@@ -24,19 +24,21 @@ pub record RanWith {A : Type 0} (before after : Seen) (script : Script A) (answe
   pub ran : Ran before after script answer places
 
 -- some turns of the script were made, the first ones, and the places of some of these, the first ones, stand behind those
--- before
+-- before; no more of them say that an entry was added than were
 pub record StoppedWith {A : Type 0} (before after : Seen) (script : Script A) (old now : List Place) : Type 0 where
   pub places : List Place
   pub rest : List Place
   pub added : now ≡ old ++ places
   pub parts : (run_on before script).places ≡ places ++ rest
   pub stopped : Stopped before after script (entries_of before script)
+  pub changed : count_changed places ≤ stopped.entries
 
--- what was posed came to these bytes
-pub record IsReplied (before after : Seen) (posed : Posed) (moment : ℕ) (close : Bool) (reply : HttpReply) (old now : List Place) : Type 0 where
-  pub answer : Reply
+-- the turns that were posed came to these bytes, and to this digest of a completed upload
+pub record IsReplied (before after : Seen) (posed : Posed) (moment : ℕ) (close : Bool) (reply : HttpReply) (sealed : Option Digest) (old now : List Place) : Type 0 where
+  pub answer : Decided
   pub ran : RanWith before after (posed_script posed moment) answer old now
-  pub bytes : reply_bytes reply ≡ posed_bytes posed close answer
+  pub bytes : reply_bytes reply ≡ posed_bytes posed close answer.reply
+  pub sealed_is : sealed ≡ answer.sealed
 
 -- after these turns the rest of the whole script is left: it ends as that does
 pub record LeadsTo {A : Type 0} (before now : Seen) (whole rest : Script A) (old places : List Place) : Type 0 where
@@ -60,17 +62,14 @@ pub record IsAskable (served : List SiteId) (asked : Asked) : Type 0 where
 
 -- ---- DescribeRepositories
 
--- why a description is refused, where it is
+-- the refusal of a description, where it is refused
 abbrev pub refusal_in : Reply → Option Refusal
 refusal_in (Refused refusal) = Some refusal
-refusal_in (Created created mutability) = None
-refusal_in (Deleted created mutability) = None
-refusal_in (Described rows next) = None
-refusal_in (MutabilitySet mutability) = None
+refusal_in _ = None
 
 -- one repository was described: its row stands behind those before, or it was refused like that
 pub record IsDescribed (before after : Seen) (s : SiteId) (name : Name) (moment : ℕ) (rows_before rows_after : List Row) (refusal : Option Refusal) (old now : List Place) : Type 0 where
-  pub reply : Reply
-  pub ran : RanWith before after (call_script (key_at s name) Describe moment) reply old now
-  pub rows : rows_after ≡ rows_before ++ rows_in reply
-  pub refused : refusal ≡ refusal_in reply
+  pub decided : Decided
+  pub ran : RanWith before after (one_script s moment name) decided old now
+  pub rows : rows_after ≡ rows_before ++ rows_in decided.reply
+  pub refused : refusal ≡ refusal_in decided.reply

@@ -1,5 +1,5 @@
 // What a request is answered.
-ghost use Rattle.std.specs.Prelude.{◌≡◌, ◌<◌, codes, length, IfErr, IfOk, OnErr};
+ghost use Rattle.std.specs.Prelude.{◌≡◌, ◌<◌, codes, length, IfErr, IfOk, None, OnErr};
 ghost use Rattle.ecr_api.specs.Readings.{LoadFits, NamesNoPart, Reads, meaning};
 ghost use Rattle.ecr_http.specs.Replies.{reply_bytes};
 ghost use Rattle.ecr_model.specs.Actions.{asks, reading};
@@ -12,12 +12,14 @@ ghost use Rattle.ecr_session.specs.Turns.{IsAskable, IsReplied, RanWith, Stopped
 
 use crate::describe::describe;
 use crate::host::site_for;
-use crate::turns::{call_at, site_at};
+use crate::turns::{Decided, call_at, site_at};
 use ecr_api::{ApiRefusal, Asked, read_call, write_refused, write_reply};
 use ecr_blob_upload::Load;
 use ecr_desk::StillDesk;
 use ecr_http::{HttpReply, closes, path_of, write_empty};
-use ecr_model::{Call, Cut, Mem, Moment, Place, Refusal, Reply, Request, SiteId, SiteReply};
+use ecr_model::{
+    Call, Cut, Digest, Mem, Moment, Place, Refusal, Reply, Request, SiteId, SiteReply,
+};
 use std::alloc::Global;
 
 /// The answer to a request.
@@ -45,25 +47,43 @@ pub(crate) fn answer_request<D: StillDesk>(
     let entries = desk.made() - before;
     match reply {
         Ok(reply) => Answer {
-            reply: Some(reply),
+            reply: Some(reply.reply),
             places,
-            cut: cut_of(entries, false),
+            cut: cut_of(entries, false, reply.sealed),
         },
         Err(_) => Answer {
             reply: None,
             places,
-            cut: cut_of(entries, true),
+            cut: cut_of(entries, true, None),
         },
     }
 }
 
-// The cut of a request that completes no upload.
-fn cut_of(entries: u64, failed: bool) -> Cut
-    ensures { result ≡ cut_of entries failed }
+// The cut of an answered request.
+fn cut_of(entries: u64, failed: bool, sealed: Option<Digest>) -> Cut
+    ensures { result ≡ cut_of entries failed sealed }
 {
     Cut {
         entries,
         failed,
+        sealed,
+    }
+}
+
+// The reply to a request, and the digest of an upload that it completed.
+#[derive(Drop)]
+struct Replied {
+    reply: HttpReply,
+    sealed: Option<Digest>,
+}
+
+// The reply that completes no upload.
+fn plain(reply: HttpReply) -> Replied
+    ensures reply { result.reply ≡ reply }
+    ensures sealed { result.sealed ≡ None }
+{
+    Replied {
+        reply,
         sealed: None,
     }
 }
@@ -75,17 +95,21 @@ fn try_answer<D: StillDesk>(
     moment: Moment,
     request: &Request,
     places: &mut Vec<Place>,
-) -> Result<HttpReply, Mem>
+) -> Result<Replied, Mem>
     requires { 0 < length (D.seen desk.old).realm.served }
-    ensures replied { IfOk result (λ r. IsReplied (D.seen desk.old) (D.seen desk.new) (posed_of (D.seen desk.old).realm.served request.now) moment (closes request.now) r places.old.items places.new.items) }
+    ensures replied { IfOk result (λ r. IsReplied (D.seen desk.old) (D.seen desk.new) (posed_of (D.seen desk.old).realm.served request.now) moment (closes request.now) r.reply r.sealed places.old.items places.new.items) }
     ensures stopped { OnErr result (StoppedWith (D.seen desk.old) (D.seen desk.new) (posed_script (posed_of (D.seen desk.old).realm.served request.now) moment) places.old.items places.new.items) }
 {
     if !is_json_call(request) {
-        return write_not_found(alloc, closes(request));
+        let reply = write_not_found(alloc, closes(request))?;
+        return Ok(plain(reply));
     }
     match read_request(alloc, desk.served(), request) {
         Ok(asked) => answer_asked(alloc, desk, &asked, moment, closes(request), places),
-        Err(ApiRefusal::Refused(refusal)) => write_refused(alloc, &refusal, closes(request)),
+        Err(ApiRefusal::Refused(refusal)) => {
+            let reply = write_refused(alloc, &refusal, closes(request))?;
+            Ok(plain(reply))
+        }
         Err(ApiRefusal::Mem) => Err(Mem),
     }
 }
@@ -135,14 +159,18 @@ fn answer_asked<D: StillDesk>(
     moment: Moment,
     close: bool,
     places: &mut Vec<Place>,
-) -> Result<HttpReply, Mem>
+) -> Result<Replied, Mem>
     requires askable { IsAskable (D.seen desk.old).realm.served (meaning asked.now) }
     requires fits { LoadFits asked.now }
-    ensures replied { IfOk result (λ r. IsReplied (D.seen desk.old) (D.seen desk.new) (api (asks (meaning asked.now))) moment close r places.old.items places.new.items) }
+    ensures replied { IfOk result (λ r. IsReplied (D.seen desk.old) (D.seen desk.new) (api (asks (meaning asked.now))) moment close r.reply r.sealed places.old.items places.new.items) }
     ensures stopped { OnErr result (StoppedWith (D.seen desk.old) (D.seen desk.new) (posed_script (api (asks (meaning asked.now))) moment) places.old.items places.new.items) }
 {
-    let reply = run_asked(alloc, desk, asked, moment, places)?;
-    write_reply(alloc, asked, &reply, &[], close)
+    let decided = run_asked(alloc, desk, asked, moment, places)?;
+    let reply = write_reply(alloc, asked, &decided.reply, &[], close)?;
+    Ok(Replied {
+        reply,
+        sealed: decided.sealed,
+    })
 }
 
 // Makes the turns of what is asked.
@@ -152,10 +180,10 @@ fn run_asked<D: StillDesk>(
     asked: &Asked,
     moment: Moment,
     places: &mut Vec<Place>,
-) -> Result<Reply, Mem>
+) -> Result<Decided, Mem>
     requires askable { IsAskable (D.seen desk.old).realm.served (meaning asked.now) }
     requires fits { LoadFits asked.now }
-    ensures ran { IfOk result (λ r. RanWith (D.seen desk.old) (D.seen desk.new) (asked_script (meaning asked.now) moment) r places.old.items places.new.items) }
+    ensures ran { IfOk result (λ r. RanWith (D.seen desk.old) (D.seen desk.new) (asked_script (meaning asked.now) moment) (record { reply = r.reply; sealed = r.sealed }) places.old.items places.new.items) }
     ensures stopped { OnErr result (StoppedWith (D.seen desk.old) (D.seen desk.new) (asked_script (meaning asked.now) moment) places.old.items places.new.items) }
 {
     match asked {
@@ -165,11 +193,23 @@ fn run_asked<D: StillDesk>(
         }
         Asked::Site { site, call } => {
             let reply = site_at(alloc, desk, site, *call, places)?;
-            Ok(of_site(reply))
+            Ok(decided(of_site(reply)))
         }
         Asked::Many { site, names, page } => {
-            describe(alloc, desk, site, names, *page, moment, places)
+            let reply = describe(alloc, desk, site, names, *page, moment, places)?;
+            Ok(decided(reply))
         }
+    }
+}
+
+// The reply, of a call that completes no upload.
+fn decided(reply: Reply) -> Decided
+    ensures reply { result.reply ≡ reply }
+    ensures sealed { result.sealed ≡ None }
+{
+    Decided {
+        reply,
+        sealed: None,
     }
 }
 

@@ -1,7 +1,6 @@
 // DescribeRepositories (Amazon ECR API Reference): one call on each repository, in the order of the reply.
 ghost use Rattle.std.specs.Prelude.{◌≡◌, ◌<◌, ◌^◌, [], None, Some, length, Contains, IfOk, OnErr};
-ghost use Rattle.ecr_model.specs.Requests.{describe_script, call_script, key_at, listed_script, named_script, next_place};
-ghost use Rattle.ecr_model.specs.declared.call.Call.TheVariants as calls;
+ghost use Rattle.ecr_model.specs.Requests.{describe_script, key_at, listed_script, named_script, next_place, one_script};
 ghost use Rattle.ecr_session.specs.Turns.{IsDescribed, RanWith, StoppedWith};
 
 use crate::turns::{call_at, site_at};
@@ -121,18 +120,12 @@ fn describe_next<D: StillDesk>(
 ) -> Result<Option<Refusal>, Mem>
     requires served { Contains (D.seen desk.old).realm.served site.now }
     ensures described { IfOk result (λ o. IsDescribed (D.seen desk.old) (D.seen desk.new) site.now name.now moment rows.old.items rows.new.items o places.old.items places.new.items) }
-    ensures stopped { OnErr result (StoppedWith (D.seen desk.old) (D.seen desk.new) (call_script (key_at site.now name.now) calls.Describe moment) places.old.items places.new.items) }
+    ensures stopped { OnErr result (StoppedWith (D.seen desk.old) (D.seen desk.new) (one_script site.now moment name.now) places.old.items places.new.items) }
 {
     let key = key_at(site, name)?;
-    match call_at(
-        alloc,
-        desk,
-        &key,
-        Call::Describe,
-        Load::Nothing,
-        moment,
-        places,
-    )? {
+    let load = Load::Nothing;
+    let decided = call_at(alloc, desk, &key, Call::Describe, load, moment, places)?;
+    match decided.reply {
         Reply::Described { rows: more, .. } => {
             let mut more = more.into_vec();
             rows.append(&mut more)?;

@@ -1,5 +1,5 @@
 // What a session keeps, and how it goes on.
-ghost use Rattle.ecr_session.specs.Serving.{IsTime};
+ghost use Rattle.ecr_model.specs.Sessions.{IsTime};
 
 use crate::answer::answer_request;
 use crate::fixed::{bad_reply, is_head, long_reply};
@@ -25,7 +25,7 @@ pub struct Session {
 impl Session {
     ghost use Rattle.std.specs.Prelude.{◌≡◌, ◌+◌, ◌-◌, ◌^◌, ◌<◌, ◌≤◌, ◌≢◌, ℕ, List, [], true, false, length, Option, Some, IfOk, IfNone, OnOk, vec_len, vec_capacity};
     ghost use Rattle.ecr_model.specs.Sessions.{Outside, Setting};
-    ghost use Rattle.ecr_session.specs.Serving.{HasCome, GoesOn, HasEnded, HasRoom, ServesRequest, SendsLast, IsFresh, account_of, entries_in, reply_bytes};
+    ghost use Rattle.ecr_session.specs.Serving.{HasCome, GoesOn, HasEnded, HasRoom, ServesRequest, SendsLast, IsFresh, account_in, entries_in, reply_bytes};
     ghost use Rattle.ecr_http.specs.Sends.{Sends};
     ghost use Rattle.ecr_model.specs.Replies.{is_head};
     ghost use Rattle.ecr_model.specs.Stream.{closes};
@@ -114,7 +114,7 @@ impl Session {
     // Takes the room for what is said of one more request.
     fn make_room(&mut self) -> Result<(), Mem>
         ensures room { OnOk result (HasRoom self.new) }
-        ensures account { account_of self.new ≡ account_of self.old }
+        ensures account { account_in self.new ≡ account_in self.old }
         ensures cuts { vec_len self.new.cuts ≡ vec_len self.old.cuts }
         ensures reader { self.new.reader ≡ self.old.reader }
     {

@@ -1,7 +1,9 @@
 // A session over a desk of one caller.
 ghost use Rattle.std.specs.Prelude.{◌≡◌, ◌<◌, ◌+◌, false, length, map};
+ghost use Rattle.ecr_model.specs.SessionLaws.{all_places};
 ghost use Rattle.ecr_model.specs.Sessions.{Account, Outside, Serves, Setting};
-ghost use Rattle.ecr_session.specs.Serving.{account_of, entries_in};
+ghost use Rattle.ecr_model.specs.Soundness.{AreFresh};
+ghost use Rattle.ecr_session.specs.Serving.{account_in, entries_in};
 
 use crate::session::Session;
 use ecr_desk::StillDesk;
@@ -55,8 +57,13 @@ pub fn session_still<D: StillDesk, S: Source, K: Sink, C: Clock>(
         (record { moments = result.moments.items; places = map (λ v. v.items) result.places.items; cuts = result.cuts.items })
         (D.seen desk.new).world result.end }
     ensures realm_stays { (D.seen desk.new).realm ≡ (D.seen desk.old).realm }
+
+    // Each place is above all tickets that stood in its cell before, and the tickets of one cell don't fall.
+    ensures fresh { AreFresh (D.seen desk.old).world.journals (all_places (map (λ v. v.items) result.places.items)) }
     ensures counted { (D.seen desk.new).made ≡ (D.seen desk.old).made + entries_in result.cuts.items }
 {
+    // That the desk's journals are sound comes with what it serves.
+    let _sites = desk.served();
     match Session::new(alloc) {
         Err(_) => SessionEnd {
             pass: (),
@@ -74,7 +81,7 @@ pub fn session_still<D: StillDesk, S: Source, K: Sink, C: Clock>(
 
 // What the session says at its end.
 fn ended(session: Session, end: End) -> SessionEnd<()>
-    ensures account { (record { moments = result.moments.items; places = map (λ v. v.items) result.places.items; cuts = result.cuts.items }) ≡ account_of session }
+    ensures account { (record { moments = result.moments.items; places = map (λ v. v.items) result.places.items; cuts = result.cuts.items }) ≡ account_in session }
     ensures cuts { result.cuts.items ≡ session.cuts.items }
     ensures end { result.end ≡ end }
 {

@@ -1,13 +1,20 @@
 // Calls on a desk, whose places are kept. The room for a place is taken before its turn.
 ghost use Rattle.std.specs.Prelude.{◌≡◌, ◌++◌, Contains, IfOk, OnErr, OnOk};
-ghost use Rattle.ecr_blob_upload.specs.Loads.{FitsCall};
+ghost use Rattle.ecr_blob_upload.specs.Loads.{FitsCall, given};
 ghost use Rattle.ecr_model.specs.Requests.{call_script, site_script};
 ghost use Rattle.ecr_session.specs.Turns.{RanWith, StoppedWith};
 
 use ecr_blob_upload::Load;
 use ecr_desk::StillDesk;
-use ecr_model::{Call, Mem, Moment, Place, Reply, RepoKey, SiteCall, SiteId, SiteReply};
+use ecr_model::{Call, Digest, Mem, Moment, Place, Reply, RepoKey, SiteCall, SiteId, SiteReply};
 use std::alloc::Global;
+
+/// The reply to a call, and the digest of all parts with which an upload's completion was decided; none of another call.
+#[derive(Drop)]
+pub(crate) struct Decided {
+    pub reply: Reply,
+    pub sealed: Option<Digest>,
+}
 
 /// A call on a repository. It has at most two turns.
 pub(crate) fn call_at<D: StillDesk>(
@@ -18,16 +25,19 @@ pub(crate) fn call_at<D: StillDesk>(
     load: Load,
     moment: Moment,
     places: &mut Vec<Place>,
-) -> Result<Reply, Mem>
+) -> Result<Decided, Mem>
     requires served { Contains (D.seen desk.old).realm.served key.now.site }
     requires fits { FitsCall call load }
-    ensures ran { IfOk result (λ r. RanWith (D.seen desk.old) (D.seen desk.new) (call_script key.now call moment) r places.old.items places.new.items) }
-    ensures stopped { OnErr result (StoppedWith (D.seen desk.old) (D.seen desk.new) (call_script key.now call moment) places.old.items places.new.items) }
+    ensures ran { IfOk result (λ r. RanWith (D.seen desk.old) (D.seen desk.new) (call_script key.now call (given load) moment) (record { reply = r.reply; sealed = r.sealed }) places.old.items places.new.items) }
+    ensures stopped { OnErr result (StoppedWith (D.seen desk.old) (D.seen desk.new) (call_script key.now call (given load) moment) places.old.items places.new.items) }
 {
     make_room(places)?;
     let answer = desk.call(alloc, key, call, load, moment)?;
     put_behind(places, answer.places)?;
-    Ok(answer.reply)
+    Ok(Decided {
+        reply: answer.reply,
+        sealed: answer.sealed,
+    })
 }
 
 /// A call on a site's directory.

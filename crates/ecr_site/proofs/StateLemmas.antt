@@ -10,14 +10,13 @@ use Rattle.std.proofs.lemmas.Slice.Eq.{bytes_eq-Decides}
 use Rattle.ecr_model.specs.declared.directory.Directory.{Directory}
 use Rattle.ecr_model.specs.declared.directory.Registered.{Registered}
 use Rattle.ecr_model.specs.declared.directory.Registered.TheVariants.{New, Known, Full}
-use Rattle.ecr_model.specs.declared.journal.Limits.{Limits}
 use Rattle.ecr_model.specs.declared.journal.Line.{Line}
 use Rattle.ecr_model.specs.declared.names.Name.{Name}
-use Rattle.ecr_model.specs.Directories.{name_order, first_directory, is_registered, registration, registered, with_name, after_line, replay, line_of}
+use Rattle.ecr_model.specs.Directories.{SiteFrame, name_order, first_directory, is_registered, registration, registered, with_name, after_line, replay, line_of}
 use Rattle.ecr_model.specs.Journals as journals
 use Rattle.ecr_model.specs.Journals.{past_from, past}
 use Rattle.ecr_model.proofs.JournalLemmas.{replay_goes_on, a_sound_journal_grows}
-use Rattle.ecr_site.specs.States.{SiteJournal, directory_of, with_line, entered, after_register, IsKept}
+use Rattle.ecr_site.specs.States.{SiteJournal, frame_of_journal, directory_of, with_line, entered, after_register, IsKept}
 
 -- the order of the two doesn't matter
 bytes_eq-swap : (a b : List ℕ) → bytes_eq a b ≡ bytes_eq b a
@@ -31,17 +30,17 @@ list_any-name_order name [] = refl
 list_any-name_order name (n ∷ ns) = λ i. (is_eq-slice_cmp name.text n.text ∙ bytes_eq-swap name.text n.text) i || list_any-name_order name ns i
 
 -- no name is registered at first
-pub IsKept-first : (limits : Limits) → IsKept limits [] []
+pub IsKept-first : (frame : SiteFrame) → IsKept frame [] []
 unfolding first_directory journals.replay journals.IsSoundFrom
-IsKept-first limits = record { sound = tt; same = refl }
+IsKept-first frame = record { sound = tt; same = refl }
 
 -- the names in order answer as the journal's do
-pub is_at-registered : (s : SiteJournal) (names : List Name) (name : Name) → IsKept s.limits s.journal names
+pub is_at-registered : (s : SiteJournal) (names : List Name) (name : Name) → IsKept (frame_of_journal s) s.journal names
     → list_any (is_at (name_order name)) names ≡ is_registered name (directory_of s)
 is_at-registered s names name kept =
     list_any-name_order name names ∙ ap (λ ns. list_any (λ n. bytes_eq n.text name.text) ns) kept.same
 
--- ---- what becomes of a name
+-- ---- the result of a registration
 
 -- what was not added was there, and what was added was not
 pub was_there : (there added : Bool) → added ≡ not there → added ≡ false → there ≡ true
@@ -52,15 +51,15 @@ pub was_not_there : (there added : Bool) → added ≡ not there → added ≡ t
 was_not_there false added p q = refl
 was_not_there true added p q = absurd (both_ways added p q)
 
-pub registration-known : (limits : Limits) (d : Directory) (name : Name) → is_registered name d ≡ true → registration limits d name ≡ Known
+pub registration-known : (frame : SiteFrame) (d : Directory) (name : Name) → is_registered name d ≡ true → registration frame d name ≡ Known
 unfolding registration
-registration-known limits d name known = cond-true (is_registered name d) _ _ known
+registration-known frame d name known = cond-true (is_registered name d) _ _ known
 
-pub registration-new : (limits : Limits) (d : Directory) (name : Name) → is_registered name d ≡ false → length d.names < limits.names → registration limits d name ≡ New
+pub registration-new : (frame : SiteFrame) (d : Directory) (name : Name) → is_registered name d ≡ false → length d.names < frame.limits.names → registration frame d name ≡ New
 unfolding registration
-registration-new limits d name unknown below =
+registration-new frame d name unknown below =
     cond-false (is_registered name d) _ _ unknown
-    ∙ cond-true (nat_lt (length d.names) limits.names) _ _ (lt-ltb (length d.names) limits.names below)
+    ∙ cond-true (nat_lt (length d.names) frame.limits.names) _ _ (lt-ltb (length d.names) frame.limits.names below)
 
 -- where the limit is reached no line is entered
 pub after_register-beyond : (s : SiteJournal) (ticket caller : ℕ) (name : Name) → s.limits.names ≤ length (directory_of s).names → after_register s ticket caller name ≡ s
@@ -74,22 +73,22 @@ after_register-beyond s ticket caller name full =
     (λ unknown. ap (λ b. entered (cond b New over) s line) (le-ltb (length d.names) s.limits.names full))
 
 -- what the line of a new name makes of the directory
-after_line-line_of : (limits : Limits) (d : Directory) (ticket caller : ℕ) (name : Name) → registration limits d name ≡ New → after_line limits d (line_of ticket caller name) ≡ Some (with_name name d)
+after_line-line_of : (frame : SiteFrame) (d : Directory) (ticket caller : ℕ) (name : Name) → registration frame d name ≡ New → after_line frame d (line_of ticket caller name) ≡ Some (with_name name d)
 unfolding after_line
-after_line-line_of limits d ticket caller name new = ap (registered name d) new
+after_line-line_of frame d ticket caller name new = ap (registered name d) new
 
 -- a new name is entered at a later ticket
-pub IsKept-line_of : (limits : Limits) (journal : List Line) (names : List Name) (ticket caller : ℕ) (name : Name)
-    → IsKept limits journal names → past journal ≤ ticket → registration limits (replay limits journal) name ≡ New
-    → IsKept limits (journal ++ line_of ticket caller name ∷ []) (insert_key name_order names name)
-IsKept-line_of limits journal names ticket caller name kept later new =
-    let d : Directory = replay limits journal in
+pub IsKept-line_of : (frame : SiteFrame) (journal : List Line) (names : List Name) (ticket caller : ℕ) (name : Name)
+    → IsKept frame journal names → past journal ≤ ticket → registration frame (replay frame journal) name ≡ New
+    → IsKept frame (journal ++ line_of ticket caller name ∷ []) (insert_key name_order names name)
+IsKept-line_of frame journal names ticket caller name kept later new =
+    let d : Directory = replay frame journal in
     let line : Line = line_of ticket caller name in
-    let changes : after_line limits d line ≡ Some (with_name name d) = after_line-line_of limits d ticket caller name new in
-    let next : replay limits (journal ++ line ∷ []) ≡ with_name name d =
-    replay_goes_on (after_line limits) first_directory journal line ∙ ap (λ o. unwrap_or o d) changes in
+    let changes : after_line frame d line ≡ Some (with_name name d) = after_line-line_of frame d ticket caller name new in
+    let next : replay frame (journal ++ line ∷ []) ≡ with_name name d =
+    replay_goes_on (after_line frame) first_directory journal line ∙ ap (λ o. unwrap_or o d) changes in
     record {
-      sound = a_sound_journal_grows (after_line limits) first_directory journal line (with_name name d) kept.sound later changes;
+      sound = a_sound_journal_grows (after_line frame) first_directory journal line (with_name name d) kept.sound later changes;
       same = ap (λ ns. insert_key name_order ns name) kept.same ∙ sym (ap (λ e. e.names) next);
     }
 

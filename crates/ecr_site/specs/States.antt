@@ -1,6 +1,7 @@
 -- A site's directory as contracts see it: its journal, and what is fixed throughout. Of this registry: docs/DECISIONS.md,
 -- "Directories".
 use Rattle.std.specs.Prelude.{◌≡◌, ℕ, List, [], ◌∷◌, ◌++◌}
+use Rattle.ecr_model.specs.declared.call.SiteCall.{SiteCall}
 use Rattle.ecr_model.specs.declared.directory.Directory.{Directory}
 use Rattle.ecr_model.specs.declared.directory.Registered.{Registered}
 use Rattle.ecr_model.specs.declared.directory.Registered.TheVariants.{New, Known, Full}
@@ -8,38 +9,46 @@ use Rattle.ecr_model.specs.declared.journal.Limits.{Limits}
 use Rattle.ecr_model.specs.declared.journal.Line.{Line}
 use Rattle.ecr_model.specs.declared.names.Name.{Name}
 use Rattle.ecr_model.specs.declared.names.SiteId.{SiteId}
-use Rattle.ecr_model.specs.Directories.{registration, replay, line_of, IsSound}
+use Rattle.ecr_model.specs.Directories.{SiteFrame, SiteOutcome, registration, replay, site_step, line_of, IsSound}
 
--- a site's journal, the first line first, and what is fixed throughout it
+-- a site's journal, the first line first, and the values that are fixed throughout it
 pub record SiteJournal : Type 0 where
   pub site : SiteId
   pub served : List SiteId
   pub limits : Limits
   pub journal : List Line
 
+-- the frame of a site's journal
+abbrev pub frame_of_journal : SiteJournal → SiteFrame
+frame_of_journal s = record { site = s.site; served = s.served; limits = s.limits }
+
 -- the directory that the journal leads to
 abbrev pub directory_of : SiteJournal → Directory
-directory_of s = replay s.limits s.journal
+directory_of s = replay (frame_of_journal s) s.journal
 
--- what becomes of the name
+-- the result of registering the name
 abbrev pub registration_in : SiteJournal → Name → Registered
-registration_in s name = registration s.limits (directory_of s) name
+registration_in s name = registration (frame_of_journal s) (directory_of s) name
 
--- with one line more
+-- the result of a call on the directory
+abbrev pub outcome_in : SiteJournal → SiteCall → SiteOutcome
+outcome_in s call = site_step (frame_of_journal s) (directory_of s) call
+
+-- the journal with one line more
 abbrev pub with_line : SiteJournal → Line → SiteJournal
 with_line s line = record s { journal = s.journal ++ line ∷ [] }
 
--- after a line of a name of which that became: a new one's line is entered
+-- the journal after a registration with that result: a new name's line is entered
 abbrev pub entered : Registered → SiteJournal → Line → SiteJournal
 entered New s line = with_line s line
 entered Known s line = s
 entered (Full limit count) s line = s
 
--- after the registration at that ticket, under that caller's number
+-- the journal after the registration at that ticket, under that caller's number
 abbrev pub after_register : SiteJournal → ℕ → ℕ → Name → SiteJournal
 after_register s ticket caller name = entered (registration_in s name) s (line_of ticket caller name)
 
 -- the names in order are those of a sound journal
-pub record IsKept (limits : Limits) (journal : List Line) (names : List Name) : Type 0 where
-  pub sound : IsSound limits journal
-  pub same : names ≡ (replay limits journal).names
+pub record IsKept (frame : SiteFrame) (journal : List Line) (names : List Name) : Type 0 where
+  pub sound : IsSound frame journal
+  pub same : names ≡ (replay frame journal).names

@@ -1,10 +1,12 @@
 //! A site's directory: the names of its repositories, with the journal of their registrations.
 //!
-//! It keeps each name once, in the order of the bytes, and a line for each name. Which names are well formed, and when
+//! It keeps each name once, in the order of the bytes, and a line for each name. A call on the directory is answered by
+//! [`SiteState::answer`]. Which names are well formed, and when
 //! a line is entered, isn't asked here.
 #![tactic(auto)]
 
 mod laws;
+mod page;
 mod state;
 #[cfg(test)]
 mod tests;

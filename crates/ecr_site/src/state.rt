@@ -1,11 +1,12 @@
 // A site's directory, and its changes.
-ghost use Rattle.std.specs.Prelude.{◌≡◌, ◌<◌, ◌≤◌, ◌+◌, [], IfOk, OnErr, OnOk, length, take, drop};
+ghost use Rattle.std.specs.Prelude.{◌≡◌, ◌<◌, ◌≤◌, ◌+◌, [], None, IfOk, OnErr, OnOk, length, take, drop};
 ghost use Rattle.ecr_model.specs.Directories.{is_registered, line_of, names_of, IsSound};
 ghost use Rattle.ecr_model.specs.Journals.{past};
 ghost use Rattle.ecr_model.specs.declared.directory.Registered.TheVariants.{New};
-ghost use Rattle.ecr_site.specs.States.{after_register, directory_of, registration_in, with_line};
+ghost use Rattle.ecr_site.specs.States.{after_register, directory_of, frame_of_journal, outcome_in, registration_in, with_line};
 
-use ecr_model::{Act, Entry, Limits, Line, Mem, Name, Registered, SiteId};
+use crate::page::page_of;
+use ecr_model::{Act, Entry, Limits, Line, Mem, Name, Registered, SiteCall, SiteId, SiteReply};
 use std::alloc::Global;
 use std::collections::BTreeSet;
 use std::marker::Model;
@@ -28,7 +29,7 @@ impl Model for SiteState {
     ghost view = { λ s. record { site = s.site; served = s.served.items; limits = s.limits; journal = s.journal.items } };
 
     // The names are kept in their order, so that no call replays the journal.
-    ghost invariant = { λ s. IsKept s.limits s.journal.items s.names.keys };
+    ghost invariant = { λ s. IsKept (record { site = s.site; served = s.served.items; limits = s.limits }) s.journal.items s.names.keys };
 }
 
 impl SiteState {
@@ -71,7 +72,17 @@ impl SiteState {
     pub fn names(&self, alloc: Global, from: u64, max: u32) -> Result<Vec<Name>, Mem>
         ensures { IfOk result (λ v. v.items ≡ names_of (record { from = from; max = max }) (directory_of self.now)) }
     {
-        page_of(alloc, &self.names, from as usize, max as usize)
+        part_of(alloc, &self.names, from as usize, max as usize)
+    }
+
+    /// Answers a call on the directory, as any turn would now. No call changes a directory yet.
+    pub fn answer(&self, alloc: Global, call: SiteCall) -> Result<SiteReply, Mem>
+        ensures exact { IfOk result (λ reply. reply ≡ (outcome_in self.now call).reply) }
+        ensures asks { (outcome_in self.now call).act ≡ None }
+    {
+        match call {
+            SiteCall::Names { page } => page_of(alloc, self, page),
+        }
     }
 
     /// Registers the name in the turn of that ticket, under that caller's number, where it is new and the limit isn't
@@ -153,7 +164,7 @@ fn line_of(ticket: u64, caller: u64, name: Name) -> Line
 }
 
 /// Copies of at most `max` of the names, from the place `from` on.
-fn page_of(alloc: Global, names: &BTreeSet<Name>, from: usize, max: usize) -> Result<Vec<Name>, Mem>
+fn part_of(alloc: Global, names: &BTreeSet<Name>, from: usize, max: usize) -> Result<Vec<Name>, Mem>
     ensures { IfOk result (λ v. v.items ≡ take max (drop from names.now.keys)) }
 {
     let mut page = Vec::new(alloc);
@@ -165,7 +176,7 @@ fn page_of(alloc: Global, names: &BTreeSet<Name>, from: usize, max: usize) -> Re
 
 /// The journal of a directory is sound.
 pub fn a_journal_is_sound(state: &SiteState)
-    ensures { IsSound state.now.limits state.now.journal }
+    ensures { IsSound (frame_of_journal state.now) state.now.journal }
 {
     let _ = &state.journal;
 }

@@ -8,4 +8,4 @@ returns-in_err-key-clause-stopped g c = OnErr-always _ _ (StoppedWith-nothing _ 
 pub returns-in_err-append-in-Described-clause-stopped :
     goal.returns-in_err-append-in-Described-clause-stopped
 returns-in_err-append-in-Described-clause-stopped g c =
-    OnErr-always _ _ (StoppedWith-key _ _ _ _ _ _ _ _ _ c.in_ok-key.ensures c.in_ok-more.ensures.ran)
+    OnErr-always _ _ (StoppedWith-key _ _ _ _ _ _ _ _ _ _ c.in_ok-key.ensures c.in_ok-decided.ensures.ran)

@@ -1,37 +1,33 @@
-use Rattle.std.proofs.Common.{◌∷◌, List, [], refl, sym, subst}
+use Rattle.std.proofs.Common.{◌≡◌, ◌∷◌, ℕ, List, [], refl, sym, ap, ◌∙◌, subst}
+use Rattle.ecr_blob_upload.specs.Loads.{given}
 use Rattle.ecr_model.specs.declared.journal.Place.{Place}
 use Rattle.ecr_model.specs.declared.reply.Reply.{Reply}
-use Rattle.ecr_model.specs.Requests.{call_script}
+use Rattle.ecr_model.specs.Contents.{AreContents}
+use Rattle.ecr_model.specs.Requests.{Decided, plain, call_script}
 use Rattle.ecr_desk.specs.Desks.{Ran, first_entries}
 use Rattle.ecr_desk.proofs.DeskLemmas.{Ran-call, Stopped-call, Stopped-none}
+use Rattle.ecr_cells.specs.Deeds.{told_of}
 use Rattle.ecr_cells.specs.Desks.{seen_of, places_of}
-use Rattle.ecr_cells.specs.Firsts.{told_of}
 use Rattle.ecr_cells.proofs.WorldLemmas.{on_err_any}
 use Rattle.ecr_cells.proofs.desk.SoloDeskStillDesk.call.Goals as goal
-
-pub returns-then-self-clause-stopped : goal.returns-then-self-clause-stopped
-returns-then-self-clause-stopped c =
-    let seen = seen_of c.args.self.now in
-    let key = c.args.key.now in
-    Stopped-none seen seen (call_script key c.args.call c.args.moment) (first_entries seen key c.args.call) refl
 
 pub returns-in_err-places-clause-stopped : goal.returns-in_err-places-clause-stopped
 returns-in_err-places-clause-stopped c =
     let seen = seen_of c.args.self.now in
     let key = c.args.key.now in
-    on_err_any c.from_residual.result (Stopped-none seen seen (call_script key c.args.call c.args.moment) (first_entries seen key c.args.call) refl)
+    on_err_any c.from_residual.result (Stopped-none seen seen (call_script key c.args.call (given c.args.load) c.args.moment) (first_entries seen key c.args.call) refl)
 
 pub returns-in_err-told-clause-stopped : goal.returns-in_err-told-clause-stopped
 returns-in_err-told-clause-stopped c =
     let seen = seen_of c.args.self.now in
     let key = c.args.key.now in
     on_err_any c.from_residual-in_err-told.result
-    (Stopped-none seen (seen_of c.first_turn.new.self) (call_script key c.args.call c.args.moment) (first_entries seen key c.args.call) c.in_err-told.ensures.err)
+    (Stopped-none seen (seen_of c.first_turn.new.self) (call_script key c.args.call (given c.args.load) c.args.moment) (first_entries seen key c.args.call) c.in_err-told.ensures.err)
 
 pub returns-in_err-outcome-clause-stopped : goal.returns-in_err-outcome-clause-stopped
 returns-in_err-outcome-clause-stopped c =
     on_err_any c.from_residual-in_err-outcome.result
-    (Stopped-call (seen_of c.args.self.now) (seen_of c.first_turn.new.self) (seen_of c.then_cell.new.self) c.args.key.now c.args.call c.args.moment
+    (Stopped-call (seen_of c.args.self.now) (seen_of c.first_turn.new.self) (seen_of c.then_cell.new.self) c.args.key.now c.args.call (given c.args.load) c.args.moment
     (told_of c.in_ok-told.told) (c.in_ok-told.first ∷ []) c.in_ok-told.ensures.ran c.in_err-outcome.ensures.err)
 
 pub returns-clause-ran : goal.returns-clause-ran
@@ -40,10 +36,21 @@ returns-clause-ran c =
     let mid = seen_of c.first_turn.new.self in
     let after = seen_of c.then_cell.new.self in
     let key = c.args.key.now in
-    let script = call_script key c.args.call c.args.moment in
+    let content = given c.args.load in
+    let script = call_script key c.args.call content c.args.moment in
     let reply = c.in_ok-outcome.outcome.reply in
     let second = places_of c.in_ok-outcome.second in
-    let ran : Ran before after script reply (c.in_ok-told.first ∷ second) =
-    Ran-call before mid after key c.args.call c.args.moment (told_of c.in_ok-told.told) reply (c.in_ok-told.first ∷ []) second c.in_ok-told.ensures.ran c.in_ok-outcome.ensures.ran in
-    subst (λ (ps : List Place). Ran before after script c.answer_of.result.reply ps) (sym c.answer_of.ensures.places)
-    (subst (λ (r : Reply). Ran before after script r (c.in_ok-told.first ∷ second)) (sym c.answer_of.ensures.reply) ran)
+    let answer = c.answer_of.result in
+    let told : Decided = record { reply = answer.reply; sealed = answer.sealed } in
+    let decided : told ≡ plain reply =
+    ap {B = Decided} (λ r. record { reply = r; sealed = answer.sealed }) c.answer_of.ensures.reply ∙ ap {B = Decided} (λ d. record { reply = reply; sealed = d }) c.answer_of.ensures.sealed in
+    let ran : Ran before after script (plain reply) (c.in_ok-told.first ∷ second) =
+    Ran-call before mid after key c.args.call content c.args.moment (told_of c.in_ok-told.told) (plain reply) (c.in_ok-told.first ∷ []) second
+    c.in_ok-told.ensures.ran c.in_ok-outcome.ensures.ran in
+    subst (λ (ps : List Place). Ran before after script told ps) (sym c.answer_of.ensures.places)
+    (subst (λ (d : Decided). Ran before after script d (c.in_ok-told.first ∷ second)) (sym decided) ran)
+
+pub returns-clause-contents : goal.returns-clause-contents
+returns-clause-contents c =
+    subst (λ (bs : List (List ℕ)). AreContents c.answer_of.result.reply bs) (sym c.answer_of.ensures.blobs)
+    (subst (λ (r : Reply). AreContents r c.in_ok-outcome.outcome.blobs.items) (sym c.answer_of.ensures.reply) c.in_ok-outcome.ensures.contents)

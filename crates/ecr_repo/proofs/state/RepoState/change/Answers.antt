@@ -17,5 +17,5 @@ invariant_of-self-2 c =
     (IsKept-called c.self.inside.key c.self.inside.limits c.self.inside.journal.items c.self.inside.cell c.args.caller turn
     c.args.call.now c.self.invariant later)
 
-pub returns-clause-blobs : goal.returns-clause-blobs
-returns-clause-blobs c = (c.in_ok-outcome.ensures.made c.self.inside.limits c.args.ticket c.args.destinations.items).blobs
+pub returns-clause-contents : goal.returns-clause-contents
+returns-clause-contents c = (c.in_ok-outcome.ensures.made c.self.inside.limits c.args.ticket c.args.destinations.items).contents

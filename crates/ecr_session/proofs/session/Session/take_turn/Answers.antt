@@ -2,7 +2,7 @@ use Rattle.std.proofs.Common.{◌∙◌, refl, sym, ap, subst}
 use Rattle.ecr_model.specs.declared.outcome.End.TheVariants as ends
 use Rattle.ecr_model.specs.Sessions.{Outside, Serves}
 use Rattle.ecr_model.specs.Stream.{Point}
-use Rattle.ecr_session.specs.Serving.{SendsLast, ServesRequest, account_of}
+use Rattle.ecr_session.specs.Serving.{SendsLast, ServesRequest, account_in}
 use Rattle.ecr_session.specs.declared.session.Session.{Session}
 use Rattle.ecr_session.proofs.EndLemmas.{Serves-whole, Serves-truncated, Serves-fault, Serves-spent, Serves-mem, Serves-no_room, Serves-untold, Serves-bad, Serves-long}
 use Rattle.ecr_session.proofs.ServingLemmas.{HasCome-room, GoesOn-request}
@@ -11,7 +11,7 @@ use Rattle.ecr_session.proofs.session.Session.take_turn.Goals as goal
 pub returns-then-is_err-clause-goes_on : goal.returns-then-is_err-clause-goes_on
 returns-then-is_err-clause-goes_on g c = λ set before same s. record {
   realm_stays = s.realm_stays;
-  serves = Serves-no_room set before _ _ _ (account_of c.make_room.new.self) _ s.so_far c.requires.opened c.make_room.ensures.account;
+  serves = Serves-no_room set before _ _ _ (account_in c.make_room.new.self) _ s.so_far c.requires.opened c.make_room.ensures.account;
 }
 
 pub returns-in-Request-clause-goes_on : goal.returns-in-Request-clause-goes_on
@@ -44,11 +44,11 @@ pub returns-in-Bad-clause-goes_on : goal.returns-in-Bad-clause-goes_on
 returns-in-Bad-clause-goes_on g c = λ set before same s.
     let between : Outside = record { left = g.S.Source.left c.next.new.source; held = g.K.Sink.held c.next.new.sink; told = g.C.Clock.told c.args.clock.now; read_faults = g.S.Source.faults c.next.new.source; write_faults = g.K.Sink.faults c.next.new.sink } in
     let t = HasCome-room set before _ c.args.self.now c.make_room.new.self (g.D.StillDesk.seen c.args.desk.now) c.make_room.ensures.account c.make_room.ensures.reader s in
-    let kept = ap (λ (x : Session). account_of x) c.refuse.ensures.kept in
+    let kept = ap (λ (x : Session). account_in x) c.refuse.ensures.kept in
     record {
       realm_stays = s.realm_stays;
       serves = subst (λ a. Serves set before (record { left = between.left; held = g.K.Sink.held c.refuse.new.sink; told = between.told; read_faults = between.read_faults; write_faults = g.K.Sink.faults c.refuse.new.sink }) a (g.D.StillDesk.seen c.args.desk.now).world c.refuse.result) (sym kept)
-          (Serves-bad set before _ between _ _ _ (account_of c.make_room.new.self) _ c.in-Bad.at c.refuse.result t.so_far (ap (λ (p : Point). p.closed) c.make_room.ensures.reader ∙ c.requires.opened) c.in-Bad.ensures.next refl refl
+          (Serves-bad set before _ between _ _ _ (account_in c.make_room.new.self) _ c.in-Bad.at c.refuse.result t.so_far (ap (λ (p : Point). p.closed) c.make_room.ensures.reader ∙ c.requires.opened) c.in-Bad.ensures.next refl refl
           (subst (λ l. SendsLast between.held (g.K.Sink.held c.refuse.new.sink) l (ends.Bad c.in-Bad.at) c.refuse.result) c.bad_reply.ensures c.refuse.ensures.sends)
           c.in-Bad.ensures.writes_later c.refuse.ensures.cause);
     }
@@ -57,11 +57,11 @@ pub returns-in-TooLong-clause-goes_on : goal.returns-in-TooLong-clause-goes_on
 returns-in-TooLong-clause-goes_on g c = λ set before same s.
     let between : Outside = record { left = g.S.Source.left c.next.new.source; held = g.K.Sink.held c.next.new.sink; told = g.C.Clock.told c.args.clock.now; read_faults = g.S.Source.faults c.next.new.source; write_faults = g.K.Sink.faults c.next.new.sink } in
     let t = HasCome-room set before _ c.args.self.now c.make_room.new.self (g.D.StillDesk.seen c.args.desk.now) c.make_room.ensures.account c.make_room.ensures.reader s in
-    let kept = ap (λ (x : Session). account_of x) c.refuse-in-TooLong.ensures.kept in
+    let kept = ap (λ (x : Session). account_in x) c.refuse-in-TooLong.ensures.kept in
     record {
       realm_stays = s.realm_stays;
       serves = subst (λ a. Serves set before (record { left = between.left; held = g.K.Sink.held c.refuse-in-TooLong.new.sink; told = between.told; read_faults = between.read_faults; write_faults = g.K.Sink.faults c.refuse-in-TooLong.new.sink }) a (g.D.StillDesk.seen c.args.desk.now).world c.refuse-in-TooLong.result) (sym kept)
-          (Serves-long set before _ between _ _ _ (account_of c.make_room.new.self) _ c.in-TooLong.at c.in-TooLong.limit c.refuse-in-TooLong.result t.so_far (ap (λ (p : Point). p.closed) c.make_room.ensures.reader ∙ c.requires.opened) c.in-TooLong.ensures.next refl refl
+          (Serves-long set before _ between _ _ _ (account_in c.make_room.new.self) _ c.in-TooLong.at c.in-TooLong.limit c.refuse-in-TooLong.result t.so_far (ap (λ (p : Point). p.closed) c.make_room.ensures.reader ∙ c.requires.opened) c.in-TooLong.ensures.next refl refl
           (subst (λ l. SendsLast between.held (g.K.Sink.held c.refuse-in-TooLong.new.sink) l (ends.TooLong c.in-TooLong.at c.in-TooLong.limit) c.refuse-in-TooLong.result) c.long_reply.ensures c.refuse-in-TooLong.ensures.sends)
           c.in-TooLong.ensures.writes_later c.refuse-in-TooLong.ensures.cause);
     }

@@ -3,7 +3,7 @@ use Rattle.ecr_model.specs.Directories.{is_registered, line_of}
 use Rattle.ecr_model.specs.Journals.{past}
 use Rattle.ecr_model.specs.declared.directory.Registered.TheVariants.{New, Known}
 use Rattle.ecr_model.specs.declared.journal.Line.{Line}
-use Rattle.ecr_site.specs.States.{SiteJournal, directory_of, entered, registration_in, with_line}
+use Rattle.ecr_site.specs.States.{SiteJournal, frame_of_journal, directory_of, entered, registration_in, with_line}
 use Rattle.ecr_site.proofs.StateLemmas.{IsKept-line_of, is_at-registered, past-with_line, registration-known, registration-new, was_there, was_not_there}
 use Rattle.ecr_site.proofs.state.SiteState.enter.Goals as goal
 
@@ -13,7 +13,7 @@ returns-then-not-branch-clause-exact c =
     let view : SiteJournal = record { site = s.site; served = s.served.items; limits = s.limits; journal = s.journal.items } in
     let there : is_registered c.in_ok-kept.kept (directory_of view) ≡ true =
     sym (is_at-registered view s.names.keys c.in_ok-kept.kept c.self.invariant) ∙ was_there _ _ c.in_ok-insert.ensures.added c.if-not-branch.true in
-    let known : registration_in view c.in_ok-kept.kept ≡ Known = registration-known s.limits (directory_of view) c.in_ok-kept.kept there in
+    let known : registration_in view c.in_ok-kept.kept ≡ Known = registration-known (frame_of_journal view) (directory_of view) c.in_ok-kept.kept there in
     sym known ∙ ap (registration_in view) c.in_ok-kept.ensures ∙ ap (λ j. registration_in j c.args.name.now) c.self.view_is
 
 pub returns-then-not-branch-clause-entered : goal.returns-then-not-branch-clause-entered
@@ -33,7 +33,7 @@ returns-clause-exact c =
     sym (is_at-registered view s.names.keys c.in_ok-kept.kept c.self.invariant) ∙ was_not_there _ _ c.in_ok-insert.ensures.added c.if-not-branch.false in
     let below : length (directory_of view).names < s.limits.names =
     subst (λ (j : SiteJournal). length (directory_of j).names < j.limits.names) (sym c.self.view_is) c.requires.below in
-    let new : registration_in view c.in_ok-kept.kept ≡ New = registration-new s.limits (directory_of view) c.in_ok-kept.kept absent below in
+    let new : registration_in view c.in_ok-kept.kept ≡ New = registration-new (frame_of_journal view) (directory_of view) c.in_ok-kept.kept absent below in
     sym new ∙ ap (registration_in view) c.in_ok-kept.ensures ∙ ap (λ j. registration_in j c.args.name.now) c.self.view_is
 
 pub invariant_of-self-2 : goal.invariant_of-self-2
@@ -43,7 +43,7 @@ invariant_of-self-2 c =
     let name = c.args.name.now in
     let is = sym c.self.view_is in
     rw (c.push_reserved.ensures.items, c.line_of.ensures, c.in_ok-insert.ensures.keys, c.in_ok-reserve.ensures.items, c.in_ok-told.ensures, c.in_ok-kept.ensures)
-    (IsKept-line_of s.limits s.journal.items s.names.keys ticket c.args.caller name c.self.invariant
+    (IsKept-line_of (record { site = s.site; served = s.served.items; limits = s.limits }) s.journal.items s.names.keys ticket c.args.caller name c.self.invariant
     (subst (λ (j : SiteJournal). past j.journal ≤ ticket) is c.requires.later)
     (subst (λ (j : SiteJournal). registration_in j name ≡ New) is (sym (returns-clause-exact c))))
 

@@ -1,0 +1,5 @@
+use Rattle.ecr_model.proofs.SoundnessLemmas.{places_are_fresh}
+use Rattle.ecr_model.proofs.laws.places_are_fresh.Goals as goal
+
+pub returns : goal.returns
+returns c = places_are_fresh

@@ -1,0 +1,5 @@
+use Rattle.ecr_model.proofs.SoundnessLemmas.{sessions_keep_journals_sound}
+use Rattle.ecr_model.proofs.laws.sessions_keep_journals_sound.Goals as goal
+
+pub returns : goal.returns
+returns c = sessions_keep_journals_sound
