@@ -13,13 +13,9 @@ use Rattle.ecr_model.specs.declared.action.Domain.TheVariants as domains
 use Rattle.ecr_model.specs.declared.names.SiteId.{SiteId}
 use Rattle.ecr_model.specs.declared.refusal.Parameter.TheVariants.{RegistryId, RepositoryNames, MaxResults, NextToken}
 use Rattle.ecr_model.specs.Actions.{members_of, may, unless}
-use Rattle.ecr_model.specs.Members.{document, first_bad, is_bad, value_of, stands_beside, number_in}
+use Rattle.ecr_model.specs.Documents.{document}
+use Rattle.ecr_model.specs.Members.{first_bad, is_bad, value_of, stands_beside, number_in}
 use Rattle.ecr_api.specs.Readings.{IsPage}
-
--- a body that is UTF-8 has the reading of its text
-pub document-IsUtf8 : (body : List ℕ) → IsUtf8 body → document body ≡ read body
-unfolding document
-document-IsUtf8 body h = cond-true _ (read body) None (eq-eqb (utf8_valid_len body) (length body) (utf8_valid_len-IsUtf8 body h))
 
 -- ---- a page that isn't refused
 

@@ -3,7 +3,7 @@ ghost use Rattle.std.specs.Prelude.{◌≡◌, IfErr, IfOk, map, option_map};
 ghost use Rattle.serde_json.specs.View.{view};
 ghost use Rattle.ecr_json.specs.Thin.{IsThinOf};
 ghost use Rattle.ecr_model.specs.Actions.{body_reading, reading, typed_reading};
-ghost use Rattle.ecr_model.specs.Members.{document};
+ghost use Rattle.ecr_model.specs.Documents.{document};
 ghost use Rattle.ecr_api.specs.Readings.{LoadFits, NamesNoPart, Reads};
 
 use crate::actions::{action_of, member_names, members_of};
@@ -108,7 +108,7 @@ fn read_value(
 }
 
 /// The body's JSON reading, thinly by these names; a body that isn't UTF-8 has none.
-#[tactic(auto, unfolding(ecr_model::specs::Members::document))]
+#[tactic(auto, unfolding(ecr_model::specs::Documents::document))]
 fn read_document(
     alloc: Global,
     scratch: &mut Scratch,

@@ -1,4 +1,3 @@
-pub mod ReadLemmas
 pub mod GivenLemmas
 pub mod ManifestLemmas
 pub mod OnceLemmas

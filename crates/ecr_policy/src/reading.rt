@@ -1,7 +1,8 @@
 // A policy's text, read whole.
 ghost use Rattle.std.specs.Prelude.{◌≡◌, ◌≤◌, ℕ, Ok, Err, IfOk, Some, length, option_map};
-ghost use Rattle.serde_json.specs.Read.{read};
 ghost use Rattle.serde_json.specs.View.{view, items_view};
+ghost use Rattle.serde_json.specs.Read.{read};
+ghost use Rattle.ecr_model.specs.Documents.{document};
 ghost use Rattle.ecr_model.specs.Policies.{policy, has_length, rules_in, read_rules, listed, together, of_text};
 ghost use Rattle.ecr_policy.specs.declared.refusal.PolicyRefusal.TheVariants.{Bad};
 
@@ -27,7 +28,7 @@ pub fn read(alloc: Global, text: &str) -> Result<Policy, PolicyRefusal>
             rule: fault.rule,
             cause: fault.cause,
         }),
-        Err(error) => Err(PolicyRefusal::Mem(error)),
+        Err(_) => Err(PolicyRefusal::Mem),
     }
 }
 
@@ -39,7 +40,7 @@ fn read_policy(alloc: Global, text: &str) -> Result<Result<Policy, PolicyFault>,
     if !has_length(text) {
         return Ok(Err(of_text(1)));
     }
-    let document = read_json(alloc, text)?;
+    let document = read_document(alloc, text)?;
     read_rules(alloc, text, rules_in(document))
 }
 
@@ -49,6 +50,13 @@ fn has_length(text: &str) -> bool
 {
     let many = characters(text);
     many >= 100 && many <= 30720
+}
+
+/// The document that the text is, where it is one.
+fn read_document(alloc: Global, text: &str) -> Result<Option<Value>, Mem>
+    ensures { IfOk result (λ o. option_map view o ≡ document text.now) }
+{
+    read_json(alloc, text)
 }
 
 /// The JSON reading of the text, where it has one.

@@ -1,5 +1,4 @@
 // Why a text gives no policy.
-use ecr_model::Mem;
 use thiserror::Error;
 
 /// Why a text gives no policy.
@@ -9,6 +8,6 @@ pub enum PolicyRefusal {
     #[error("rule {rule} of the policy is refused for cause {cause}")]
     Bad { rule: u32, cause: u8 },
     /// There was no memory.
-    #[error(transparent)]
-    Mem(#[from(alloc)] Mem),
+    #[error("there was no memory")]
+    Mem,
 }

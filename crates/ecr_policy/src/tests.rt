@@ -190,7 +190,7 @@ fn told(alloc: Global, text: &str) -> Result<(u32, u8), AllocError> {
     match read(alloc, text) {
         Ok(_) => Ok((0, 0)),
         Err(PolicyRefusal::Bad { rule, cause }) => Ok((rule, cause)),
-        Err(PolicyRefusal::Mem(error)) => Err(error),
+        Err(PolicyRefusal::Mem) => Err(AllocError),
     }
 }
 
