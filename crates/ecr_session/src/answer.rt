@@ -13,14 +13,18 @@ ghost use Rattle.ecr_session.specs.Turns.{IsAskable, IsReplied, RanWith, Stopped
 use crate::describe::describe;
 use crate::host::site_for;
 use crate::turns::{Decided, call_at, site_at};
-use ecr_api::{ApiRefusal, Asked, read_call, write_refused, write_reply};
+use ecr_api::{ApiRefusal, Asked, read_call, read_call_in, write_refused, write_reply};
 use ecr_blob_upload::Load;
 use ecr_desk::StillDesk;
 use ecr_http::{HttpReply, closes, path_of, write_empty};
 use ecr_model::{
     Call, Cut, Digest, Mem, Moment, Place, Refusal, Reply, Request, SiteId, SiteReply,
 };
+use json::Scratch;
 use std::alloc::Global;
+
+/// The most bytes of a body that a session's scratch is kept for.
+const LONG_BODY: usize = 65_536;
 
 /// The answer to a request.
 #[derive(Drop)]
@@ -34,6 +38,7 @@ pub(crate) struct Answer {
 /// Answers a request at the moment. Without memory the turns that it made stay.
 pub(crate) fn answer_request<D: StillDesk>(
     alloc: Global,
+    scratch: &mut Scratch,
     desk: &mut D,
     moment: Moment,
     request: &Request,
@@ -43,7 +48,7 @@ pub(crate) fn answer_request<D: StillDesk>(
 {
     let before = desk.made();
     let mut places = Vec::new(alloc);
-    let reply = try_answer(alloc, desk, moment, request, &mut places);
+    let reply = try_answer(alloc, scratch, desk, moment, request, &mut places);
     let entries = desk.made() - before;
     match reply {
         Ok(reply) => Answer {
@@ -91,6 +96,7 @@ fn plain(reply: HttpReply) -> Replied
 // The reply to a request, whose places are put behind the others.
 fn try_answer<D: StillDesk>(
     alloc: Global,
+    scratch: &mut Scratch,
     desk: &mut D,
     moment: Moment,
     request: &Request,
@@ -104,7 +110,7 @@ fn try_answer<D: StillDesk>(
         let reply = write_not_found(alloc, closes(request))?;
         return Ok(plain(reply));
     }
-    match read_request(alloc, desk.served(), request) {
+    match read_request(alloc, scratch, desk.served(), request) {
         Ok(asked) => answer_asked(alloc, desk, &asked, moment, closes(request), places),
         Err(ApiRefusal::Refused(refusal)) => {
             let reply = write_refused(alloc, &refusal, closes(request))?;
@@ -123,8 +129,14 @@ fn is_json_call(request: &Request) -> bool
         && path_of(request.target.as_bytes()) == b"/".as_slice()
 }
 
-// What a request of the JSON API asks for, at the site that its Host names of those that are served.
-fn read_request(alloc: Global, served: &[SiteId], request: &Request) -> Result<Asked, ApiRefusal>
+// What a request of the JSON API asks for, at the site that its Host names of those that are served. A long body is read
+// by a scratch of its own, so that the other stays small.
+fn read_request(
+    alloc: Global,
+    scratch: &mut Scratch,
+    served: &[SiteId],
+    request: &Request,
+) -> Result<Asked, ApiRefusal>
     requires { 0 < length served.now }
     ensures exact { Reads result (reading (target_of request.now) request.now.body (base_of served.now request.now) served.now) }
     ensures fits { IfOk result LoadFits }
@@ -132,13 +144,12 @@ fn read_request(alloc: Global, served: &[SiteId], request: &Request) -> Result<A
 {
     let host = request.fields.first_value(b"host");
     let base = site_for(served, host);
-    read_call(
-        alloc,
-        target_of(request),
-        request.body.as_bytes(),
-        base,
-        served,
-    )
+    let target = target_of(request);
+    let body = request.body.as_bytes();
+    if body.len() > LONG_BODY {
+        return read_call(alloc, target, body, base, served);
+    }
+    read_call_in(alloc, scratch, target, body, base, served)
 }
 
 // The value of X-Amz-Target; where it isn't there, no bytes.

@@ -8,6 +8,7 @@ use ecr_errors::fixed_500;
 use ecr_http::{Event, HttpReply, Reader, Sent, closes};
 use ecr_model::{Cut, End, Mem, Moment, Place, Request};
 use ecr_outside::{Clock, Sink, Source};
+use json::Scratch;
 use std::alloc::Global;
 
 /// What a session keeps.
@@ -44,9 +45,11 @@ impl Session {
     }
 
     /// Serves requests until the session ends, and says how. Their moment is the fixed one, or else each time the clock's.
+    /// Their bodies are read by the scratch.
     pub(crate) fn run<D: StillDesk, S: Source, K: Sink, C: Clock>(
         &mut self,
         alloc: Global,
+        scratch: &mut Scratch,
         desk: &mut D,
         fixed: Option<Moment>,
         source: &mut S,
@@ -63,7 +66,7 @@ impl Session {
         ensures counted { (D.seen desk.new).made ≡ (D.seen desk.old).made + entries_in self.new.cuts.items }
     {
         loop {
-            if let Some(end) = self.take_turn(alloc, desk, fixed, source, sink, clock) {
+            if let Some(end) = self.take_turn(alloc, scratch, desk, fixed, source, sink, clock) {
                 return end;
             }
         }
@@ -74,6 +77,7 @@ impl Session {
     fn take_turn<D: StillDesk, S: Source, K: Sink, C: Clock>(
         &mut self,
         alloc: Global,
+        scratch: &mut Scratch,
         desk: &mut D,
         fixed: Option<Moment>,
         source: &mut S,
@@ -97,7 +101,9 @@ impl Session {
             return Some(End::Mem);
         }
         match self.reader.next(alloc, source, sink) {
-            Event::Request(request) => self.serve(alloc, desk, fixed, &request, sink, clock),
+            Event::Request(request) => {
+                self.serve(alloc, scratch, desk, fixed, &request, sink, clock)
+            }
             Event::End => Some(End::Whole),
             Event::Truncated(at) => Some(End::Truncated { at }),
             Event::Bad(at) => Some(self.refuse(sink, bad_reply(), End::Bad { at })),
@@ -127,6 +133,7 @@ impl Session {
     fn serve<D: StillDesk, K: Sink, C: Clock>(
         &mut self,
         alloc: Global,
+        scratch: &mut Scratch,
         desk: &mut D,
         fixed: Option<Moment>,
         request: &Request,
@@ -144,7 +151,7 @@ impl Session {
         ensures cause { result ≡ Some End.WriteFault → K.faults sink.old < K.faults sink.new }
     {
         let moment = moment_of(fixed, clock);
-        let answer = answer_request(alloc, desk, moment, request);
+        let answer = answer_request(alloc, scratch, desk, moment, request);
         self.moments.push_reserved(moment);
         self.places.push_reserved(answer.places);
         self.cuts.push_reserved(answer.cut);

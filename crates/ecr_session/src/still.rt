@@ -9,6 +9,7 @@ use crate::session::Session;
 use ecr_desk::StillDesk;
 use ecr_model::{Cut, End, Moment, Place};
 use ecr_outside::{Clock, Sink, Source};
+use json::Scratch;
 use std::alloc::Global;
 
 /// How a session is served.
@@ -73,7 +74,8 @@ pub fn session_still<D: StillDesk, S: Source, K: Sink, C: Clock>(
             end: End::Mem,
         },
         Ok(mut session) => {
-            let end = session.run(alloc, desk, mode.fixed, source, sink, clock);
+            let mut scratch = Scratch::new(alloc);
+            let end = session.run(alloc, &mut scratch, desk, mode.fixed, source, sink, clock);
             ended(session, end)
         }
     }
