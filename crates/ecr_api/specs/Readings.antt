@@ -8,7 +8,6 @@ use Rattle.ecr_model.specs.declared.refusal.Parameter.TheVariants.{MaxResults, M
 use Rattle.ecr_model.specs.Actions as actions
 use Rattle.ecr_model.specs.Members.{number_in, value_of}
 use Rattle.ecr_blob_upload.specs.Loads.{FitsCall, given}
-use Rattle.ecr_errors.specs.Parts.{HasItsUpload}
 use Rattle.ecr_api.specs.declared.asked.ApiRefusal.{ApiRefusal}
 use Rattle.ecr_api.specs.declared.asked.ApiRefusal.TheVariants.{Refused, Mem}
 use Rattle.ecr_api.specs.declared.asked.Asked.{Asked}
@@ -31,11 +30,6 @@ abbrev pub Reads : Result Asked ApiRefusal → actions.Reading → Type 0
 Reads (Ok asked) reading = reading ≡ actions.asks (meaning asked)
 Reads (Err (Refused refusal)) reading = reading ≡ actions.refuses refusal
 Reads (Err Mem) reading = Unit {0}
-
--- the body isn't refused for a part of an upload
-abbrev pub NamesNoPart : ApiRefusal → Type 0
-NamesNoPart (Refused refusal) = HasItsUpload refusal None None
-NamesNoPart Mem = Unit {0}
 
 -- the parameter is a member of a body, and no text in one
 abbrev pub IsMember : Parameter → Type 0

@@ -6,7 +6,7 @@ ghost use Rattle.serde_json.specs.Written.{compact_text};
 ghost use Rattle.ecr_model.specs.Rendered.{key_asked, mutability_text, reply_data, repository_data, rows_data, site_asked, with_token};
 ghost use Rattle.ecr_model.specs.Sites.{utf8_or_empty};
 ghost use Rattle.ecr_api.specs.Readings.{meaning};
-ghost use Rattle.ecr_api.specs.Writings.{NamesNoUpload, data_tokens, member_tokens, rest_tokens};
+ghost use Rattle.ecr_api.specs.Writings.{data_tokens, member_tokens, rest_tokens};
 
 use crate::Asked;
 use ecr_base::{utf8_or_empty, write_arn_at, write_uri_at};
@@ -24,7 +24,6 @@ const ROW_ROOM: usize = 320;
 /// The body of a reply to what was asked.
 #[tactic(auto, unfolding(ecr_model::specs::Rendered::reply_data))]
 pub(crate) fn write_body(alloc: Global, asked: &Asked, reply: &Reply) -> Result<Vec<u8>, Mem>
-    requires { NamesNoUpload reply.now }
     ensures { IfOk result (λ b. b.items ≡ compact_text (reply_data (meaning asked.now) reply.now)) }
 {
     match reply {

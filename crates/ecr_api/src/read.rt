@@ -1,10 +1,10 @@
 // What a target and a body ask for (Amazon ECR API Reference, "Actions").
-ghost use Rattle.std.specs.Prelude.{◌≡◌, IfErr, IfOk, map, option_map};
+ghost use Rattle.std.specs.Prelude.{◌≡◌, IfOk, map, option_map};
 ghost use Rattle.serde_json.specs.View.{view};
 ghost use Rattle.ecr_json.specs.Thin.{IsThinOf};
 ghost use Rattle.ecr_model.specs.Actions.{body_reading, reading, typed_reading};
 ghost use Rattle.ecr_model.specs.Documents.{document};
-ghost use Rattle.ecr_api.specs.Readings.{LoadFits, NamesNoPart, Reads};
+ghost use Rattle.ecr_api.specs.Readings.{LoadFits, Reads};
 
 use crate::actions::{action_of, member_names, members_of};
 use crate::calls::asked_by;
@@ -31,9 +31,8 @@ pub fn read_call(
 ) -> Result<Asked, ApiRefusal>
     ensures exact { Reads result (reading target.now body.now base.now served.now) }
 
-    // So a desk can be asked for it, or its refusal written.
+    // So a desk can be asked for it.
     ensures fits { IfOk result LoadFits }
-    ensures plain { IfErr result NamesNoPart }
 {
     let mut scratch = Scratch::new(alloc);
     read_call_in(alloc, &mut scratch, target, body, base, served)
@@ -53,9 +52,8 @@ pub fn read_call_in(
 ) -> Result<Asked, ApiRefusal>
     ensures exact { Reads result (reading target.now body.now base.now served.now) }
 
-    // So a desk can be asked for it, or its refusal written.
+    // So a desk can be asked for it.
     ensures fits { IfOk result LoadFits }
-    ensures plain { IfErr result NamesNoPart }
 {
     match action_of(target) {
         Some(action) => {
@@ -76,7 +74,6 @@ fn read_body(
 ) -> Result<Asked, ApiRefusal>
     ensures exact { Reads result (body_reading base.now served.now action (option_map view body.now)) }
     ensures fits { IfOk result LoadFits }
-    ensures plain { IfErr result NamesNoPart }
 {
     match body {
         Some(value) => read_value(alloc, base, served, action, value),
@@ -95,7 +92,6 @@ fn read_value(
 ) -> Result<Asked, ApiRefusal>
     ensures exact { Reads result (typed_reading base.now served.now action (view body.now)) }
     ensures fits { IfOk result LoadFits }
-    ensures plain { IfErr result NamesNoPart }
 {
     let members = members_of(action);
     if !are_typed(members, body) {

@@ -1,5 +1,4 @@
 // Bodies as they are read, and replies as they are written.
-ghost use Rattle.ecr_api.specs.Writings.{NamesNoUpload};
 
 use crate::{ApiRefusal, Asked, read_call, write_refused, write_reply};
 use ecr_base::write_uri;
@@ -304,7 +303,6 @@ fn page(alloc: Global) -> Result<Asked, Mem> {
 
 /// The reply as it is sent.
 fn whole(alloc: Global, asked: &Asked, reply: &Reply, close: bool) -> Result<String, Fail>
-    requires { NamesNoUpload reply.now }
 {
     let written = write_reply(alloc, asked, reply, &[], close)?;
     let mut text = text_of(alloc, &written.head)?;

@@ -1,10 +1,8 @@
 // Replies as bytes (Amazon ECR API Reference; RFC 9112).
 ghost use Rattle.std.specs.Prelude.{◌≡◌, IfOk, None};
 ghost use Rattle.ecr_model.specs.Rendered.{json, refused, status_of, with_head};
-ghost use Rattle.ecr_errors.specs.Parts.{HasItsUpload};
 ghost use Rattle.ecr_http.specs.Replies.{reply_bytes};
 ghost use Rattle.ecr_api.specs.Readings.{meaning};
-ghost use Rattle.ecr_api.specs.Writings.{NamesNoUpload};
 
 use crate::Asked;
 use crate::bodies::write_body;
@@ -15,8 +13,8 @@ use ecr_http::HttpReply;
 use ecr_model::{Mem, Refusal, Reply};
 use std::alloc::Global;
 
-/// The reply to what was asked; it says `close` where the session closes after it. None of these replies has content
-/// of `blobs`.
+/// The reply to what was asked, with the content that it names, in its order (`blobs`); it says `close` where the session
+/// closes after it. No reply shows content yet.
 ///
 /// The body is written once, into room that fits short names.
 #[tactic(auto, unfolding(ecr_model::specs::Rendered::json))]
@@ -27,8 +25,7 @@ pub fn write_reply(
     blobs: &[Blob],
     close: bool,
 ) -> Result<HttpReply, Mem>
-    requires { NamesNoUpload reply.now }
-    ensures exact { IfOk result (λ r. reply_bytes r ≡ json (meaning asked.now) reply.now close) }
+    ensures exact { IfOk result (λ r. reply_bytes r ≡ json (meaning asked.now) reply.now blobs.now close) }
 {
     let body = write_body(alloc, asked, reply)?;
     with_head(alloc, close, status_of(reply), body)
@@ -37,7 +34,6 @@ pub fn write_reply(
 /// The reply to a body that asks for nothing; it says `close` where the session closes after it.
 #[tactic(auto, unfolding(ecr_model::specs::Rendered::refused, ecr_model::specs::Refusals::refusal_body))]
 pub fn write_refused(alloc: Global, refusal: &Refusal, close: bool) -> Result<HttpReply, Mem>
-    requires { HasItsUpload refusal.now None None }
     ensures exact { IfOk result (λ r. reply_bytes r ≡ refused refusal.now close) }
 {
     let body = refusal_body(alloc, refusal, None, None)?;

@@ -52,7 +52,7 @@ fn change_often(alloc: Global, state: &mut RepoState) -> Result<(), Mem>
     Ok(())
 }
 
-/// Creates the repository in the first turn, and then sets its mutability to the other value.
+/// Creates the repository in each even turn, and deletes it in each odd one.
 fn change_once(alloc: Global, state: &mut RepoState, ticket: u64) -> Result<(), Mem>
     requires later { past state.old.journal ≤ ticket }
     ensures { OnOk result (past state.new.journal ≤ ticket + 1) }
@@ -72,14 +72,11 @@ fn change_once(alloc: Global, state: &mut RepoState, ticket: u64) -> Result<(), 
 }
 
 fn call_of(ticket: u64) -> Call {
-    let mutability = if ticket % 2 == 0 {
-        Mutability::Mutable
+    if ticket % 2 == 0 {
+        Call::Create {
+            mutability: Mutability::Mutable,
+        }
     } else {
-        Mutability::Immutable
-    };
-    if ticket == 0 {
-        Call::Create { mutability }
-    } else {
-        Call::SetMutability { mutability }
+        Call::Delete { force: false }
     }
 }

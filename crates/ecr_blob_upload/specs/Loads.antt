@@ -1,7 +1,6 @@
 -- The content that comes with a call (Amazon ECR API Reference, UploadLayerPart, PutImage).
 use Rattle.std.specs.Prelude.{◌≡◌, ℕ, List, Option, None}
 use Rattle.ecr_model.specs.declared.call.Call.{Call}
-use Rattle.ecr_model.specs.declared.call.Call.TheVariants.{Create, Delete, Describe, SetMutability}
 use Rattle.ecr_blob_upload.specs.declared.call.Load.{Load}
 use Rattle.ecr_blob_upload.specs.declared.call.Load.TheVariants.{Nothing}
 
@@ -11,7 +10,4 @@ given Nothing = None
 
 -- the content is such as the call has; these calls have none
 abbrev pub FitsCall : Call → Load → Type 0
-FitsCall (Create mutability) load = load ≡ Nothing
-FitsCall (Delete force) load = load ≡ Nothing
-FitsCall Describe load = load ≡ Nothing
-FitsCall (SetMutability mutability) load = load ≡ Nothing
+FitsCall call load = load ≡ Nothing

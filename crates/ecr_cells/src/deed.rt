@@ -45,9 +45,7 @@ pub(crate) fn first_deed(name: Name, call: &Call) -> Deed
 {
     match call {
         Call::Create { .. } => Deed::Register(name),
-        Call::Delete { .. } => Deed::Knows(name),
-        Call::Describe => Deed::Knows(name),
-        Call::SetMutability { .. } => Deed::Knows(name),
+        _ => Deed::Knows(name),
     }
 }
 

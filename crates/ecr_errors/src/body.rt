@@ -3,7 +3,6 @@ ghost use Rattle.std.specs.Prelude.{◌≡◌, ℕ, IfOk, Some, option_map};
 ghost use Rattle.serde_json.specs.Read.{read};
 ghost use Rattle.serde_json.specs.View.{view};
 ghost use Rattle.ecr_model.specs.Refusals.{part_data, plain_data, refusal_body, refusal_data};
-ghost use Rattle.ecr_errors.specs.Parts.{HasItsUpload};
 
 use crate::message::{type_text, write_message};
 use ecr_base::{utf8_or_empty, write_upload_id};
@@ -14,8 +13,8 @@ use std::alloc::Global;
 /// The body of a refusal: a JSON object without spaces, its members in byte order of their names. `upload` is the number
 /// of the upload that the call was one on, counted from 1 in its repository's name.
 ///
-/// It has `__type` and `message`. That of a refused part names the repository and the upload too, and the last byte that
-/// was received, where one was (Amazon ECR API Reference, `UploadLayerPart`). Bytes count from 0.
+/// It has `__type` and `message`. That of a refused part names the repository and the upload too, where both are given, and
+/// the last byte that was received, where one was (Amazon ECR API Reference, `UploadLayerPart`). Bytes count from 0.
 #[tactic(auto, unfolding(ecr_model::specs::Refusals::refusal_body))]
 pub fn refusal_body(
     alloc: Global,
@@ -23,7 +22,6 @@ pub fn refusal_body(
     key: Option<&RepoKey>,
     upload: Option<u64>,
 ) -> Result<Vec<u8>, Mem>
-    requires { HasItsUpload refusal.now (option_map (λ k. k.now) key) upload }
     ensures text { IfOk result (λ b. b.items ≡ refusal_body refusal.now (option_map (λ k. k.now) key.entry) upload) }
     ensures reads_back { IfOk result
         (λ b. read b.items ≡ Some (refusal_data refusal.now (option_map (λ k. k.now) key.entry) upload)) }
@@ -39,7 +37,6 @@ fn refusal_data(
     key: Option<&RepoKey>,
     upload: Option<u64>,
 ) -> Result<Builder, Mem>
-    requires { HasItsUpload refusal.now (option_map (λ k. k.now) key) upload }
     ensures { IfOk result (λ b. view b ≡ refusal_data refusal.now (option_map (λ k. k.now) key.entry) upload) }
 {
     match (refusal, key, upload) {

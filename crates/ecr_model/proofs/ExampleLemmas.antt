@@ -54,7 +54,7 @@ answered : (ran.answer ≡ plain (Created 1700000000 Mutable)) × (ran.entries �
 unfolding posed_script asked_script call_script first_turn then_cell then_do run entered turn_at with_lines parts_after fresh replay after_line first_directory registration standard steps.step steps.first_state steps.after_line
 answered = (refl, refl, refl)
 
-rendered : posed_bytes creation false (Created 1700000000 Mutable) ≡ first_answer
+rendered : posed_bytes creation false (Created 1700000000 Mutable) [] ≡ first_answer
 unfolding posed_bytes json reply_data repository_data json_head connection_line utf8_or_empty arn_of uri_of utf8_valid_len is_utf8 chars digits serde_json_on_literals
 rendered = refl
 
@@ -65,8 +65,8 @@ outcome-posed = ap (λ p. run example_realm fresh (posed_script p 1700000000)) p
 pub a_first_creation_is_answered : AFirstCreationIsAnswered
 unfolding written says_close
 a_first_creation_is_answered =
-    ap (λ p. posed_bytes p false (outcome_of example_realm fresh 1700000000 first_request).answer.reply) posed
-    ∙ ap (λ r. posed_bytes creation false r) (ap (λ (r : Run Decided). r.answer.reply) outcome-posed ∙ ap (λ (d : Decided). d.reply) answered.0) ∙ rendered
+    ap (λ p. posed_bytes p false (outcome_of example_realm fresh 1700000000 first_request).answer.reply []) posed
+    ∙ ap (λ r. posed_bytes creation false r []) (ap (λ (r : Run Decided). r.answer.reply) outcome-posed ∙ ap (λ (d : Decided). d.reply) answered.0) ∙ rendered
 
 -- the exchange is what the request's turns come to
 first_served : IsServed first_standing first_exchange (record first_standing { world = left_by example_realm fresh 1700000000 first_cut first_request })
@@ -81,6 +81,7 @@ first_served =
       timed = (refl, tt);
       counts = record { at_most = omega (arith, two); all = λ served. sym two; sealed = λ served. sym none; no_other = inl refl };
       placed = record { all = λ served. sym there; first = ([], there ∙ sym (append-nil first_places)); changed = omega arith };
+      carries = refl;
       bytes = sym a_first_creation_is_answered;
       leaves = refl;
     }

@@ -1,10 +1,10 @@
 -- One more exchange of a session, and what the bytes that were read decide.
-use Rattle.std.proofs.Common.{◌≡◌, ℕ, List, [], ◌∷◌, ◌++◌, map, Option, None, Some, refl, sym, ap, ◌∙◌, subst, append_assoc, append-nil}
+use Rattle.std.proofs.Common.{◌≡◌, ℕ, Bool, true, false, if◌then◌else◌, List, [], ◌∷◌, ◌++◌, map, Option, None, Some, refl, sym, ap, ◌∙◌, subst, append_assoc, append-nil}
 use Rattle.std.specs.Io.KnownBytes.{Appends}
 use Rattle.std.proofs.KnownBytes.{Appends-nil, Appends-trans}
 use Rattle.ecr_model.specs.declared.http.Request.{Request}
 use Rattle.ecr_model.specs.declared.outcome.Cut.{Cut}
-use Rattle.ecr_model.specs.Posed.{posed_of, posed_bytes}
+use Rattle.ecr_model.specs.Content.{content_digest}
 use Rattle.ecr_model.specs.Replies.{interim}
 use Rattle.ecr_model.specs.Scripts.{Realm, World}
 use Rattle.ecr_model.specs.Sessions.{Exchange, Standing, Chain, IsServed, AreServed, IsTime, is_waiting, written, left_by, answer_to, sent_to, requests_of}
@@ -69,13 +69,25 @@ a_fixed_moment_is_each first last (e ∷ es) moment served fixed =
 -- the reply to a request, and what it leaves, by what decides them
 written-same : (realm other : Realm) (world another : World) (d e : Exchange)
     → realm ≡ other → world ≡ another → d.moment ≡ e.moment → d.cut ≡ e.cut → d.request ≡ e.request
-    → written realm world d.moment d.cut d.request ≡ written other another e.moment e.cut e.request
-written-same realm other world another d e r w m c q =
-    ap (λ x. written x world d.moment d.cut d.request) r
-    ∙ ap (λ x. written other x d.moment d.cut d.request) w
-    ∙ ap (λ x. written other another x d.cut d.request) m
-    ∙ ap (λ x. written other another e.moment x d.request) c
-    ∙ ap (λ x. written other another e.moment e.cut x) q
+    → d.contents ≡ e.contents
+    → written realm world d.moment d.cut d.request d.contents ≡ written other another e.moment e.cut e.request e.contents
+written-same realm other world another d e r w m c q s =
+    ap (λ x. written x world d.moment d.cut d.request d.contents) r
+    ∙ ap (λ x. written other x d.moment d.cut d.request d.contents) w
+    ∙ ap (λ x. written other another x d.cut d.request d.contents) m
+    ∙ ap (λ x. written other another e.moment x d.request d.contents) c
+    ∙ ap (λ x. written other another e.moment e.cut x d.contents) q
+    ∙ ap (λ x. written other another e.moment e.cut e.request x) s
+
+-- a list under a map that is empty is empty
+map-none : {A B : Type 0} (f : A → B) (xs : List A) → map f xs ≡ [] → xs ≡ []
+map-none f [] none = refl
+map-none f (x ∷ xs) none = absurd (cc)
+
+-- no reply carries content yet
+carries_none : (failed : Bool) (contents : List (List ℕ)) → map content_digest contents ≡ (if failed then [] else []) → contents ≡ []
+carries_none true contents is = map-none content_digest contents is
+carries_none false contents is = map-none content_digest contents is
 
 left_by-same : (realm other : Realm) (world another : World) (d e : Exchange)
     → realm ≡ other → world ≡ another → d.moment ≡ e.moment → d.cut ≡ e.cut → d.request ≡ e.request
@@ -103,8 +115,10 @@ AreServed-same s t last other (e ∷ es) (f ∷ fs) realm world one two q m c =
     let qs = heads_same e.request f.request (requests_of es) (requests_of fs) q in
     let ms = heads_same e.moment f.moment (map (λ d. d.moment) es) (map (λ d. d.moment) fs) m in
     let cs = heads_same e.cut f.cut (map (λ d. d.cut) es) (map (λ d. d.cut) fs) c in
+    let contents : e.contents ≡ f.contents =
+    carries_none e.cut.failed e.contents one.1.carries ∙ sym (carries_none f.cut.failed f.contents two.1.carries) in
     let bytes : e.bytes ≡ f.bytes =
-    one.1.bytes ∙ written-same s.realm t.realm s.world t.world e f realm world ms.0 cs.0 qs.0 ∙ sym two.1.bytes in
+    one.1.bytes ∙ written-same s.realm t.realm s.world t.world e f realm world ms.0 cs.0 qs.0 contents ∙ sym two.1.bytes in
     let next_realm : one.0.realm ≡ two.0.realm = one.1.realm_stays ∙ realm ∙ sym two.1.realm_stays in
     let next_world : one.0.world ≡ two.0.world =
     one.1.leaves ∙ left_by-same s.realm t.realm s.world t.world e f realm world ms.0 cs.0 qs.0 ∙ sym two.1.leaves in

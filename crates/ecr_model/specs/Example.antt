@@ -69,7 +69,7 @@ first_answer =
 
 -- a site without repositories answers it like that
 abbrev pub AFirstCreationIsAnswered : Type 0
-AFirstCreationIsAnswered = written example_realm fresh 1700000000 first_cut first_request ≡ first_answer
+AFirstCreationIsAnswered = written example_realm fresh 1700000000 first_cut first_request [] ≡ first_answer
 
 -- the input ends between two requests
 abbrev pub the_end : Tail
@@ -86,7 +86,14 @@ first_places = record { cell = Directory first_key.site; ticket = 0; changed = B
 
 -- the request's exchange
 abbrev pub first_exchange : Exchange
-first_exchange = record { request = first_request; moment = 1700000000; places = first_places; cut = first_cut; bytes = first_answer }
+first_exchange = record {
+  request = first_request;
+  moment = 1700000000;
+  places = first_places;
+  cut = first_cut;
+  contents = [];
+  bytes = first_answer;
+}
 
 -- a session's standing where no request came yet
 abbrev pub first_standing : Standing

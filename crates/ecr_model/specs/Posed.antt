@@ -43,8 +43,8 @@ posed_script (api (asks asked)) moment = asked_script asked moment
 posed_script (api (refuses refusal)) moment = ends (plain (Refused refusal))
 posed_script unrouted moment = ends (plain (Refused UnknownOperation))
 
--- the reply to it as bytes, where its turns come to that reply
-unfoldable pub posed_bytes : Posed → Bool → Reply → List ℕ
-posed_bytes (api (asks asked)) close reply = json asked reply close
-posed_bytes (api (refuses refusal)) close reply = refused refusal close
-posed_bytes unrouted close reply = empty_reply close (codes "404 Not Found")
+-- the reply to it as bytes, where its turns come to that reply, which carries that content
+unfoldable pub posed_bytes : Posed → Bool → Reply → List (List ℕ) → List ℕ
+posed_bytes (api (asks asked)) close reply contents = json asked reply contents close
+posed_bytes (api (refuses refusal)) close reply contents = refused refusal close
+posed_bytes unrouted close reply contents = empty_reply close (codes "404 Not Found")

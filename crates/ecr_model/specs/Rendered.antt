@@ -73,19 +73,17 @@ reply_data asked (Refused refusal) = refusal_data refusal (Some (key_asked asked
 
 -- the status of a reply
 abbrev pub status_of : Reply → List ℕ
-status_of (Created created mutability) = codes "200 OK"
-status_of (Deleted created mutability) = codes "200 OK"
-status_of (Described rows next) = codes "200 OK"
-status_of (MutabilitySet mutability) = codes "200 OK"
 status_of (Refused refusal) = codes "400 Bad Request"
+status_of _ = codes "200 OK"
 
 -- a reply of the JSON API with that body
 abbrev pub with_head : Bool → List ℕ → List ℕ → List ℕ
 with_head close status body = json_head close status (length body) ++ body
 
--- the reply to what was asked, where `close` says that the session closes after it
-unfoldable pub json : Asked → Reply → Bool → List ℕ
-json asked reply close = with_head close (status_of reply) (compact_text (reply_data asked reply))
+-- the reply to what was asked with the content that it carries, where `close` says that the session closes after it; no
+-- body shows content yet
+unfoldable pub json : Asked → Reply → List (List ℕ) → Bool → List ℕ
+json asked reply contents close = with_head close (status_of reply) (compact_text (reply_data asked reply))
 
 -- the reply to a body that asks for nothing
 unfoldable pub refused : Refusal → Bool → List ℕ

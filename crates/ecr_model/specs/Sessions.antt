@@ -3,10 +3,13 @@ use Rattle.std.specs.Prelude.{◌≡◌, ℕ, ◌+◌, ◌^◌, ◌<◌, ◌≤�
 use Rattle.std.specs.Io.KnownBytes.{Consumes, Appends, Keeps, IsAtEnd}
 use Rattle.ecr_model.specs.declared.http.Request.{Request}
 use Rattle.ecr_model.specs.declared.journal.Place.{Place}
+use Rattle.ecr_model.specs.declared.names.Digest.{Digest}
 use Rattle.ecr_model.specs.declared.names.TheConstants.{MAX_MOMENT}
 use Rattle.ecr_model.specs.declared.outcome.Cut.{Cut}
 use Rattle.ecr_model.specs.declared.outcome.End.{End}
 use Rattle.ecr_model.specs.declared.outcome.End.TheVariants as ends
+use Rattle.ecr_model.specs.Content.{content_digest}
+use Rattle.ecr_model.specs.Contents.{named_by}
 use Rattle.ecr_model.specs.Framing.{waits}
 use Rattle.ecr_model.specs.Stream.{Point, start, head_part, closes, Begins, Reads, Ending, Tail, ended, closed, truncated, bad_at, long_at, more, AwaitsBody}
 use Rattle.ecr_model.specs.Posed.{posed_of, posed_script, posed_bytes}
@@ -24,10 +27,15 @@ script_of realm moment request = posed_script (posed_of realm.served request) mo
 abbrev pub outcome_of : Realm → World → ℕ → Request → Run Decided
 outcome_of realm world moment request = run realm world (script_of realm moment request)
 
--- the reply to a request, as bytes
-unfoldable pub written : Realm → World → ℕ → Cut → Request → List ℕ
-written realm world moment cut request = if cut.failed then failed_reply (is_head request) (closes request)
-    else posed_bytes (posed_of realm.served request) (closes request) (outcome_of realm world moment request).answer.reply
+-- the reply to a request with the content that it carries, as bytes
+unfoldable pub written : Realm → World → ℕ → Cut → Request → List (List ℕ) → List ℕ
+written realm world moment cut request contents = if cut.failed then failed_reply (is_head request) (closes request)
+    else posed_bytes (posed_of realm.served request) (closes request) (outcome_of realm world moment request).answer.reply contents
+
+-- the digests that the reply to a request names; the reply of one that failed names none
+abbrev pub named_to : Realm → World → ℕ → Cut → Request → List Digest
+named_to realm world moment cut request =
+    if cut.failed then [] else named_by (outcome_of realm world moment request).answer.reply
 
 -- the world after a request; one that failed made its turns up to so many entries
 unfoldable pub left_by : Realm → World → ℕ → Cut → Request → World
@@ -52,12 +60,13 @@ pub record IsPlaced (realm : Realm) (world : World) (moment : ℕ) (cut : Cut) (
 
 -- ---- exchanges
 
--- an answered request: its moment, its places and its cut, and the bytes of its reply
+-- an answered request: its moment, its places and its cut, the content that its reply carries, and the reply's bytes
 pub record Exchange : Type 0 where
   pub request : Request
   pub moment : ℕ
   pub places : List Place
   pub cut : Cut
+  pub contents : List (List ℕ)
   pub bytes : List ℕ
 
 -- exchanges one after another, each of which leads from one standing to the next
@@ -86,7 +95,8 @@ pub record IsServed (was : Standing) (e : Exchange) (now : Standing) : Type 0 wh
   pub timed : IsTime was.fixed was.told now.told e.moment
   pub counts : Counts was.realm was.world e.moment e.request e.cut
   pub placed : IsPlaced was.realm was.world e.moment e.cut e.request e.places
-  pub bytes : e.bytes ≡ written was.realm was.world e.moment e.cut e.request
+  pub carries : map content_digest e.contents ≡ named_to was.realm was.world e.moment e.cut e.request
+  pub bytes : e.bytes ≡ written was.realm was.world e.moment e.cut e.request e.contents
   pub leaves : now.world ≡ left_by was.realm was.world e.moment e.cut e.request
 
 -- the exchanges are those of one caller, one after another

@@ -1,7 +1,7 @@
 -- What holds of a state's journal and of what it leads to.
 use Rattle.std.proofs.Common.{◌≡◌, ◌≤◌, ℕ, suc, List, [], ◌∷◌, ◌++◌, Option, None, Some, is_some, if◌then◌else◌, unwrap_or, refl, sym, ap, ◌∙◌, subst, arith}
 use Rattle.ecr_model.specs.declared.call.Call.{Call}
-use Rattle.ecr_model.specs.declared.call.Call.TheVariants.{Create, Delete, Describe, SetMutability}
+use Rattle.ecr_model.specs.declared.call.Call.TheVariants.{Describe}
 use Rattle.ecr_model.specs.declared.journal.Limits.{Limits}
 use Rattle.ecr_model.specs.declared.journal.Line.{Line}
 use Rattle.ecr_model.specs.declared.names.RepoKey.{RepoKey}
@@ -57,10 +57,8 @@ IsKept-called key limits journal repository caller turn call kept later =
 -- a call that asks changes nothing
 pub an_answer_changes_nothing : AnAnswerChangesNothing
 unfolding step
-an_answer_changes_nothing s turn (Create mutability) asks = absurd asks
-an_answer_changes_nothing s turn (Delete force) asks = absurd asks
 an_answer_changes_nothing s turn Describe asks = grind arith
-an_answer_changes_nothing s turn (SetMutability mutability) asks = absurd asks
+an_answer_changes_nothing s turn _ asks = absurd asks
 
 -- the last line is past the others
 past_from-push : (low : ℕ) (lines : List Line) (line : Line) → past_from low (lines ++ line ∷ []) ≡ suc line.ticket

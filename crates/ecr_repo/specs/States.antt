@@ -2,7 +2,7 @@
 -- count from 0, moments are in seconds.
 use Rattle.std.specs.Prelude.{◌≡◌, ℕ, Bool, List, [], ◌∷◌, ◌++◌, None, is_some, if◌then◌else◌}
 use Rattle.ecr_model.specs.declared.call.Call.{Call}
-use Rattle.ecr_model.specs.declared.call.Call.TheVariants.{Create, Delete, Describe, SetMutability}
+use Rattle.ecr_model.specs.declared.call.Call.TheVariants.{Describe}
 use Rattle.ecr_model.specs.declared.journal.Limits.{Limits}
 use Rattle.ecr_model.specs.declared.journal.Line.{Line}
 use Rattle.ecr_model.specs.declared.names.RepoKey.{RepoKey}
@@ -51,10 +51,8 @@ after_call state caller turn call =
 
 -- the call asks, and changes nothing
 abbrev pub AnswersOnly : Call → Type 0
-AnswersOnly (Create mutability) = ⊥
-AnswersOnly (Delete force) = ⊥
 AnswersOnly Describe = Unit {0}
-AnswersOnly (SetMutability mutability) = ⊥
+AnswersOnly _ = ⊥
 
 -- the content and the destinations are such as the call has; no call has destinations yet
 abbrev pub Fits : Call → Load → List SiteId → Type 0

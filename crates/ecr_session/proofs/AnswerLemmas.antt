@@ -18,6 +18,7 @@ use Rattle.ecr_model.specs.declared.reply.Reply.{Reply}
 use Rattle.ecr_model.specs.declared.reply.Reply.TheVariants.{Refused}
 use Rattle.ecr_model.specs.declared.reply.SiteReply.{SiteReply}
 use Rattle.ecr_model.specs.Actions.{Asked, cell, site, many, Reading, asks, refuses, reading}
+use Rattle.ecr_model.specs.Contents.{named_by, AreContents}
 use Rattle.ecr_model.specs.Posed.{Posed, api, unrouted, base_of, is_json_call, posed_of, posed_script, posed_bytes, target_of}
 use Rattle.ecr_model.specs.Rendered.{json, refused}
 use Rattle.ecr_model.specs.Replies.{empty_reply}
@@ -26,11 +27,10 @@ use Rattle.ecr_model.specs.Scripts.{ends, run_to, count_changed}
 use Rattle.ecr_model.proofs.ScriptLemmas.{count_changed-run}
 use Rattle.ecr_model.specs.Sessions.{left_by, written}
 use Rattle.ecr_model.specs.Stream.{closes}
-use Rattle.ecr_api.specs.Readings.{NamesNoPart, Reads}
+use Rattle.ecr_api.specs.Readings.{Reads}
 use Rattle.ecr_api.specs.declared.asked.ApiRefusal.{ApiRefusal}
 use Rattle.ecr_api.specs.declared.asked.ApiRefusal.TheVariants as api_refusals
 use Rattle.ecr_desk.specs.Desks.{Seen, run_on}
-use Rattle.ecr_errors.specs.Parts.{HasItsUpload}
 use Rattle.ecr_http.specs.Replies.{reply_bytes}
 use Rattle.ecr_http.specs.declared.reply.HttpReply.{HttpReply}
 use Rattle.ecr_session.specs.Serving.{Answers, cut_of}
@@ -52,10 +52,6 @@ posed_of-api served request r is reads = cond-true _ _ _ is ∙ ap api reads
 pub Reads-refused : (why : ApiRefusal) (refusal : Refusal) (r : Reading) → why ≡ api_refusals.Refused refusal → Reads (Err why) r → r ≡ refuses refusal
 Reads-refused why refusal r is reads = subst (λ w. Reads (Err w) r) is reads
 
--- such a refusal needs no upload
-pub NamesNoPart-refused : (why : ApiRefusal) (refusal : Refusal) → why ≡ api_refusals.Refused refusal → NamesNoPart why → HasItsUpload refusal None None
-NamesNoPart-refused why refusal is plain = subst NamesNoPart is plain
-
 -- ---- the reply to it
 
 pub IsReplied-unrouted : (seen : Seen) (posed : Posed) (moment : ℕ) (close : Bool) (reply : HttpReply) (sealed : Option Digest) (old : List Place) → posed ≡ unrouted
@@ -63,21 +59,22 @@ pub IsReplied-unrouted : (seen : Seen) (posed : Posed) (moment : ℕ) (close : B
 unfolding posed_script posed_bytes
 IsReplied-unrouted seen posed moment close reply sealed old is bytes none =
     subst (λ p. IsReplied seen seen p moment close reply sealed old old) (sym is)
-    (record { answer = plain (Refused UnknownOperation); ran = RanWith-ends seen (plain (Refused UnknownOperation)) old; bytes = bytes; sealed_is = none })
+    (record { answer = plain (Refused UnknownOperation); ran = RanWith-ends seen (plain (Refused UnknownOperation)) old; contents = []; carries = refl; bytes = bytes; sealed_is = none })
 
 pub IsReplied-refused : (seen : Seen) (posed : Posed) (refusal : Refusal) (moment : ℕ) (close : Bool) (reply : HttpReply) (sealed : Option Digest) (old : List Place) → posed ≡ api (refuses refusal)
     → reply_bytes reply ≡ refused refusal close → sealed ≡ None → IsReplied seen seen posed moment close reply sealed old old
 unfolding posed_script posed_bytes
 IsReplied-refused seen posed refusal moment close reply sealed old is bytes none =
     subst (λ p. IsReplied seen seen p moment close reply sealed old old) (sym is)
-    (record { answer = plain (Refused refusal); ran = RanWith-ends seen (plain (Refused refusal)) old; bytes = bytes; sealed_is = none })
+    (record { answer = plain (Refused refusal); ran = RanWith-ends seen (plain (Refused refusal)) old; contents = []; carries = refl; bytes = bytes; sealed_is = none })
 
-pub IsReplied-asked : (before after : Seen) (asked : Asked) (moment : ℕ) (close : Bool) (answer : Decided) (reply : HttpReply) (old now : List Place)
-    → RanWith before after (asked_script asked moment) answer old now → reply_bytes reply ≡ json asked answer.reply close
+pub IsReplied-asked : (before after : Seen) (asked : Asked) (moment : ℕ) (close : Bool) (answer : Decided) (contents : List (List ℕ)) (reply : HttpReply) (old now : List Place)
+    → RanWith before after (asked_script asked moment) answer old now → AreContents answer.reply contents
+    → reply_bytes reply ≡ json asked answer.reply contents close
     → IsReplied before after (api (asks asked)) moment close reply answer.sealed old now
 unfolding posed_script posed_bytes
-IsReplied-asked before after asked moment close answer reply old now ran bytes =
-    record { answer = answer; ran = ran; bytes = bytes; sealed_is = refl }
+IsReplied-asked before after asked moment close answer contents reply old now ran carries bytes =
+    record { answer = answer; ran = ran; contents = contents; carries = carries; bytes = bytes; sealed_is = refl }
 
 pub StoppedWith-asked : (before after : Seen) (asked : Asked) (moment : ℕ) (old now : List Place) → StoppedWith before after (asked_script asked moment) old now
     → StoppedWith before after (posed_script (api (asks asked)) moment) old now
@@ -189,7 +186,9 @@ Answers-replied before after moment request reply sealed old places first last c
     let count : last - first ≡ (run_on before script).entries = omega (arith, ran.counted, first_is, last_is) in
     let digest : sealed ≡ (run_on before script).answer.sealed = r.sealed_is ∙ ap (λ (d : Decided). d.sealed) ran.answered in
     subst (λ k. Answers before after moment request (Some reply) places k) (sym is_cut) (record {
-      bytes = r.bytes ∙ ap (λ (d : Decided). posed_bytes posed (closes request) d.reply) ran.answered;
+      contents = r.contents;
+      carries = r.carries ∙ ap (λ (d : Decided). named_by d.reply) ran.answered;
+      bytes = r.bytes ∙ ap (λ (d : Decided). posed_bytes posed (closes request) d.reply r.contents) ran.answered;
       realm_stays = ran.realm_stays;
       leaves = ran.left;
       counted = omega (arith, ran.counted, first_is, last_is);
@@ -211,6 +210,8 @@ Answers-failed before after moment request old places first last cut is_cut empt
     let count : last - first ≡ stopped.entries = omega (arith, stopped.counted, first_is, last_is) in
     let told : places ≡ s.places = s.added ∙ ap (λ l. l ++ s.places) empty in
     subst (λ k. Answers before after moment request None places k) (sym is_cut) (record {
+      contents = [];
+      carries = refl;
       bytes = refl;
       realm_stays = stopped.realm_stays;
       leaves = stopped.left ∙ ap (λ n. run_to n before.realm before.world (posed_script posed moment)) (sym count);

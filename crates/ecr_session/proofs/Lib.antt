@@ -4,7 +4,6 @@ pub mod EndLemmas
 pub mod FreshLemmas
 pub mod FixedLemmas
 pub mod HostLemmas
-pub mod PlainLemmas
 pub mod ServingLemmas
 pub mod StartLemmas
 pub mod TurnLemmas

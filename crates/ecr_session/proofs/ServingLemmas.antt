@@ -88,12 +88,14 @@ account_in-pushed old now e moments places cuts = cc
 pub Answered-by : (fixed : Option ℕ) (request : Request) (before after : Outside) (old now : Session) (seen later : Seen) (sent : Sent)
     (moment : ℕ) (reply : Option HttpReply) (places : List Place) (cut : Cut)
     → IsTime fixed before.told after.told moment → Answers seen later moment request reply places cut
-    → account_in now ≡ with_exchange (account_in old) (record { request = request; moment = moment; places = places; cut = cut; bytes = reply_bytes (is_head request) (closes request) reply })
+    → now.moments.items ≡ old.moments.items ++ moment ∷ [] → map (λ v. v.items) now.places.items ≡ map (λ v. v.items) old.places.items ++ places ∷ []
+    → now.cuts.items ≡ old.cuts.items ++ cut ∷ []
     → now.reader ≡ old.reader → after.left ≡ before.left
     → Sends before.held after.held (reply_bytes (is_head request) (closes request) reply) sent
     → Answered fixed request before old seen after now later sent
-Answered-by fixed request before after old now seen later sent moment reply places cut timed a added reader left sends = record {
-  exchange = record { request = request; moment = moment; places = places; cut = cut; bytes = reply_bytes (is_head request) (closes request) reply };
+Answered-by fixed request before after old now seen later sent moment reply places cut timed a moments all_places cuts reader left sends =
+  let e : Exchange = record { request = request; moment = moment; places = places; cut = cut; contents = a.contents; bytes = reply_bytes (is_head request) (closes request) reply } in record {
+  exchange = e;
   request_is = refl;
   served = record {
     realm_stays = a.realm_stays;
@@ -101,10 +103,11 @@ Answered-by fixed request before after old now seen later sent moment reply plac
     timed = timed;
     counts = a.counts;
     placed = a.placed;
+    carries = a.carries;
     bytes = a.bytes;
     leaves = a.leaves;
   };
-  added = added;
+  added = account_in-pushed old now e moments all_places cuts;
   reader = reader;
   left = left;
   sends = sends;

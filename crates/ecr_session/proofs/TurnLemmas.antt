@@ -11,7 +11,7 @@ use Rattle.ecr_model.specs.declared.names.SiteId.{SiteId}
 use Rattle.ecr_model.specs.declared.refusal.Refusal.{Refusal}
 use Rattle.ecr_model.specs.declared.reply.Described.{Described as Row}
 use Rattle.ecr_model.specs.declared.reply.Reply.{Reply}
-use Rattle.ecr_model.specs.declared.reply.Reply.TheVariants.{Created, Deleted, Described, MutabilitySet, Refused}
+use Rattle.ecr_model.specs.declared.reply.Reply.TheVariants.{Described, Refused}
 use Rattle.ecr_model.specs.Requests.{Decided, call_script, one_script, rows_in, is_refused, named_script, listed_script}
 use Rattle.ecr_model.specs.ScriptLaws.{RunsThen}
 use Rattle.ecr_model.specs.Scripts.{Realm, Script, ends, then_do, run, count_changed}

@@ -8,9 +8,10 @@ use Rattle.ecr_model.specs.declared.names.Digest.{Digest}
 use Rattle.ecr_model.specs.declared.outcome.Cut.{Cut}
 use Rattle.ecr_model.specs.declared.outcome.End.{End}
 use Rattle.ecr_model.specs.declared.outcome.End.TheVariants as ends
+use Rattle.ecr_model.specs.Content.{content_digest}
 use Rattle.ecr_model.specs.Replies.{failed_reply, is_head}
 use Rattle.ecr_model.specs.Scripts.{World}
-use Rattle.ecr_model.specs.Sessions.{Account, Outside, Setting, Counts, Exchange, IsPlaced, IsServed, Serviced, Serves, Standing, left_by, max_read, requests_of, sent_to, written}
+use Rattle.ecr_model.specs.Sessions.{Account, Outside, Setting, Counts, Exchange, IsPlaced, IsServed, Serviced, Serves, Standing, left_by, max_read, named_to, requests_of, sent_to, written}
 use Rattle.ecr_model.specs.Stream.{Point, start, closes, Begins}
 use Rattle.ecr_desk.specs.Desks.{Seen}
 use Rattle.ecr_http.specs.Replies as http
@@ -29,9 +30,11 @@ reply_bytes bare close (Some reply) = http.reply_bytes reply
 abbrev pub cut_of : ℕ → Bool → Option Digest → Cut
 cut_of entries failed sealed = record { entries = entries; failed = failed; sealed = sealed }
 
--- the reply, the places and the cut are those of the request, and what is on the desk afterwards is what it leaves
+-- the reply with its content, the places and the cut are those of the request, and what is on the desk afterwards is what it leaves
 pub record Answers (before after : Seen) (moment : ℕ) (request : Request) (reply : Option HttpReply) (places : List Place) (cut : Cut) : Type 0 where
-  pub bytes : reply_bytes (is_head request) (closes request) reply ≡ written before.realm before.world moment cut request
+  pub contents : List (List ℕ)
+  pub carries : map content_digest contents ≡ named_to before.realm before.world moment cut request
+  pub bytes : reply_bytes (is_head request) (closes request) reply ≡ written before.realm before.world moment cut request contents
   pub realm_stays : after.realm ≡ before.realm
   pub leaves : after.world ≡ left_by before.realm before.world moment cut request
   pub counted : after.made ≡ before.made + cut.entries

@@ -9,6 +9,7 @@ use Rattle.ecr_model.specs.declared.reply.Described.{Described as Row}
 use Rattle.ecr_model.specs.declared.reply.Reply.{Reply}
 use Rattle.ecr_model.specs.declared.reply.Reply.TheVariants.{Refused}
 use Rattle.ecr_model.specs.Actions.{Asked, cell, site, many}
+use Rattle.ecr_model.specs.Contents.{AreContents}
 use Rattle.ecr_model.specs.Posed.{Posed, posed_bytes, posed_script}
 use Rattle.ecr_model.specs.Rendered.{site_asked}
 use Rattle.ecr_model.specs.Requests.{Decided, one_script, rows_in}
@@ -33,11 +34,14 @@ pub record StoppedWith {A : Type 0} (before after : Seen) (script : Script A) (o
   pub stopped : Stopped before after script (entries_of before script)
   pub changed : count_changed places ≤ stopped.entries
 
--- the turns that were posed came to these bytes, and to this digest of a completed upload
+-- the turns that were posed came to these bytes, with the content that their reply names, and to this digest of a completed
+-- upload
 pub record IsReplied (before after : Seen) (posed : Posed) (moment : ℕ) (close : Bool) (reply : HttpReply) (sealed : Option Digest) (old now : List Place) : Type 0 where
   pub answer : Decided
   pub ran : RanWith before after (posed_script posed moment) answer old now
-  pub bytes : reply_bytes reply ≡ posed_bytes posed close answer.reply
+  pub contents : List (List ℕ)
+  pub carries : AreContents answer.reply contents
+  pub bytes : reply_bytes reply ≡ posed_bytes posed close answer.reply contents
   pub sealed_is : sealed ≡ answer.sealed
 
 -- after these turns the rest of the whole script is left: it ends as that does

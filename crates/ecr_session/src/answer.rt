@@ -1,8 +1,9 @@
 // What a request is answered.
-ghost use Rattle.std.specs.Prelude.{◌≡◌, ◌<◌, codes, length, IfErr, IfOk, None, OnErr};
-ghost use Rattle.ecr_api.specs.Readings.{LoadFits, NamesNoPart, Reads, meaning};
+ghost use Rattle.std.specs.Prelude.{◌≡◌, ◌<◌, codes, length, IfOk, None, OnErr};
+ghost use Rattle.ecr_api.specs.Readings.{LoadFits, Reads, meaning};
 ghost use Rattle.ecr_http.specs.Replies.{reply_bytes};
 ghost use Rattle.ecr_model.specs.Actions.{asks, reading};
+ghost use Rattle.ecr_model.specs.Contents.{AreContents};
 ghost use Rattle.ecr_model.specs.Posed.{api, base_of, is_json_call, posed_of, posed_script, target_of};
 ghost use Rattle.ecr_model.specs.Replies.{empty_reply};
 ghost use Rattle.ecr_model.specs.Requests.{asked_script, of_site};
@@ -140,7 +141,6 @@ fn read_request(
     requires { 0 < length served.now }
     ensures exact { Reads result (reading (target_of request.now) request.now.body (base_of served.now request.now) served.now) }
     ensures fits { IfOk result LoadFits }
-    ensures plain { IfErr result NamesNoPart }
 {
     let host = request.fields.first_value(b"host");
     let base = site_for(served, host);
@@ -177,7 +177,7 @@ fn answer_asked<D: StillDesk>(
     ensures stopped { OnErr result (StoppedWith (D.seen desk.old) (D.seen desk.new) (posed_script (api (asks (meaning asked.now))) moment) places.old.items places.new.items) }
 {
     let decided = run_asked(alloc, desk, asked, moment, places)?;
-    let reply = write_reply(alloc, asked, &decided.reply, &[], close)?;
+    let reply = write_reply(alloc, asked, &decided.reply, decided.blobs.as_slice(), close)?;
     Ok(Replied {
         reply,
         sealed: decided.sealed,
@@ -195,6 +195,7 @@ fn run_asked<D: StillDesk>(
     requires askable { IsAskable (D.seen desk.old).realm.served (meaning asked.now) }
     requires fits { LoadFits asked.now }
     ensures ran { IfOk result (λ r. RanWith (D.seen desk.old) (D.seen desk.new) (asked_script (meaning asked.now) moment) (record { reply = r.reply; sealed = r.sealed }) places.old.items places.new.items) }
+    ensures contents { IfOk result (λ r. AreContents r.reply r.blobs.items) }
     ensures stopped { OnErr result (StoppedWith (D.seen desk.old) (D.seen desk.new) (asked_script (meaning asked.now) moment) places.old.items places.new.items) }
 {
     match asked {
@@ -204,22 +205,24 @@ fn run_asked<D: StillDesk>(
         }
         Asked::Site { site, call } => {
             let reply = site_at(alloc, desk, site, *call, places)?;
-            Ok(decided(of_site(reply)))
+            Ok(decided(alloc, of_site(reply)))
         }
         Asked::Many { site, names, page } => {
             let reply = describe(alloc, desk, site, names, *page, moment, places)?;
-            Ok(decided(reply))
+            Ok(decided(alloc, reply))
         }
     }
 }
 
-// The reply, of a call that completes no upload.
-fn decided(reply: Reply) -> Decided
+// The reply, of a call that completes no upload; such a reply names no content.
+fn decided(alloc: Global, reply: Reply) -> Decided
     ensures reply { result.reply ≡ reply }
     ensures sealed { result.sealed ≡ None }
+    ensures contents { AreContents result.reply result.blobs.items }
 {
     Decided {
         reply,
+        blobs: Vec::new(alloc),
         sealed: None,
     }
 }

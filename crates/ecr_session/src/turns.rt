@@ -1,18 +1,21 @@
 // Calls on a desk, whose places are kept. The room for a place is taken before its turn.
 ghost use Rattle.std.specs.Prelude.{◌≡◌, ◌++◌, Contains, IfOk, OnErr, OnOk};
 ghost use Rattle.ecr_blob_upload.specs.Loads.{FitsCall, given};
+ghost use Rattle.ecr_model.specs.Contents.{AreContents};
 ghost use Rattle.ecr_model.specs.Requests.{call_script, site_script};
 ghost use Rattle.ecr_session.specs.Turns.{RanWith, StoppedWith};
 
-use ecr_blob_upload::Load;
+use ecr_blob_upload::{Blob, Load};
 use ecr_desk::StillDesk;
 use ecr_model::{Call, Digest, Mem, Moment, Place, Reply, RepoKey, SiteCall, SiteId, SiteReply};
 use std::alloc::Global;
 
-/// The reply to a call, and the digest of all parts with which an upload's completion was decided; none of another call.
+/// The reply to a call with the content that it names, and the digest of all parts with which an upload's completion was
+/// decided; none of another call.
 #[derive(Drop)]
 pub(crate) struct Decided {
     pub reply: Reply,
+    pub blobs: Vec<Blob>,
     pub sealed: Option<Digest>,
 }
 
@@ -29,6 +32,7 @@ pub(crate) fn call_at<D: StillDesk>(
     requires served { Contains (D.seen desk.old).realm.served key.now.site }
     requires fits { FitsCall call load }
     ensures ran { IfOk result (λ r. RanWith (D.seen desk.old) (D.seen desk.new) (call_script key.now call (given load) moment) (record { reply = r.reply; sealed = r.sealed }) places.old.items places.new.items) }
+    ensures contents { IfOk result (λ r. AreContents r.reply r.blobs.items) }
     ensures stopped { OnErr result (StoppedWith (D.seen desk.old) (D.seen desk.new) (call_script key.now call (given load) moment) places.old.items places.new.items) }
 {
     make_room(places)?;
@@ -36,6 +40,7 @@ pub(crate) fn call_at<D: StillDesk>(
     put_behind(places, answer.places)?;
     Ok(Decided {
         reply: answer.reply,
+        blobs: answer.blobs,
         sealed: answer.sealed,
     })
 }

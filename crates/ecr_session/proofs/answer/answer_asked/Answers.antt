@@ -1,20 +1,13 @@
-use Rattle.std.proofs.Common.{sym, subst, ap}
 use Rattle.std.proofs.lemmas.Result.{IfOk-weaker}
-use Rattle.ecr_model.specs.Requests.{Decided}
-use Rattle.ecr_api.specs.Writings.{NamesNoUpload}
 use Rattle.ecr_session.proofs.AnswerLemmas.{IsReplied-asked, StoppedWith-asked}
-use Rattle.ecr_session.proofs.PlainLemmas.{asked-plain}
 use Rattle.ecr_session.proofs.TurnLemmas.{OnErr-always, StoppedWith-whole}
 use Rattle.ecr_session.proofs.answer.answer_asked.Goals as goal
 
 pub returns-in_err-decided-clause-stopped : goal.returns-in_err-decided-clause-stopped
 returns-in_err-decided-clause-stopped g c = OnErr-always _ _ (StoppedWith-asked _ _ _ _ _ _ c.in_err-decided.ensures.stopped)
 
-pub write_reply-requires : goal.write_reply-requires
-write_reply-requires g c = subst NamesNoUpload (sym (ap (λ (d : Decided). d.reply) c.in_ok-decided.ensures.ran.ran.answered)) (asked-plain _ _ _ _)
-
 pub returns-clause-replied : goal.returns-clause-replied
-returns-clause-replied g c = IsReplied-asked _ _ _ _ _ _ c.in_ok-reply.reply _ _ c.in_ok-decided.ensures.ran c.in_ok-reply.ensures.exact
+returns-clause-replied g c = IsReplied-asked _ _ _ _ _ _ _ c.in_ok-reply.reply _ _ c.in_ok-decided.ensures.ran c.in_ok-decided.ensures.contents c.in_ok-reply.ensures.exact
 
 pub returns-in_err-reply-clause-stopped : goal.returns-in_err-reply-clause-stopped
 returns-in_err-reply-clause-stopped g c = OnErr-always _ _ (StoppedWith-asked _ _ _ _ _ _ (StoppedWith-whole _ _ _ _ _ _ c.in_ok-decided.ensures.ran))

@@ -7,7 +7,7 @@ use Rattle.ecr_model.specs.Rendered.{refused}
 use Rattle.ecr_model.specs.Replies.{empty_reply}
 use Rattle.ecr_api.specs.Readings.{meaning}
 use Rattle.ecr_http.specs.Replies.{reply_bytes}
-use Rattle.ecr_session.proofs.AnswerLemmas.{NamesNoPart-refused, IsReplied-refused, IsReplied-same, IsReplied-unrouted, Reads-refused, StoppedWith-same, posed_of-api, posed_of-unrouted}
+use Rattle.ecr_session.proofs.AnswerLemmas.{IsReplied-refused, IsReplied-same, IsReplied-unrouted, Reads-refused, StoppedWith-same, posed_of-api, posed_of-unrouted}
 use Rattle.ecr_session.proofs.AskLemmas.{reading-askable, site_for-served}
 use Rattle.ecr_session.proofs.TurnLemmas.{OnErr-always, StoppedWith-nothing}
 use Rattle.ecr_session.proofs.answer.try_answer.Goals as goal
@@ -26,9 +26,6 @@ answer_asked-requires-clause-askable g c =
     let request = c.args.request.now in
     let reads = subst (λ (s : List SiteId). reading (target_of request) request.body (base_of s request) s ≡ asks (meaning c.in-Ok.asked)) c.served.ensures.sites c.in-Ok.ensures.exact in
     reading-askable _ _ _ _ _ (site_for-served served _ c.requires) reads
-
-pub write_refused-requires : goal.write_refused-requires
-write_refused-requires g c = NamesNoPart-refused _ _ c.in-Err-Refused.field-0-is c.in-Err-Refused.ensures.plain
 
 pub returns-in-Ok-clause-replied : goal.returns-in-Ok-clause-replied
 returns-in-Ok-clause-replied g c =

@@ -1,10 +1,7 @@
 use Rattle.std.proofs.Common.{◌∙◌, map, refl, sym, ap}
 use Rattle.std.proofs.lemmas.List.{map_push}
-use Rattle.ecr_model.specs.Replies.{is_head}
-use Rattle.ecr_model.specs.Stream.{closes}
-use Rattle.ecr_session.specs.Serving.{reply_bytes}
 use Rattle.ecr_session.specs.declared.session.Session.{Session}
-use Rattle.ecr_session.proofs.ServingLemmas.{Answered-by, account_in-pushed}
+use Rattle.ecr_session.proofs.ServingLemmas.{Answered-by}
 use Rattle.ecr_session.proofs.session.Session.serve.Goals as goal
 
 pub returns-in-WriteFault-clause-serves : goal.returns-in-WriteFault-clause-serves
@@ -12,10 +9,9 @@ returns-in-WriteFault-clause-serves g c = λ left faults.
     Answered-by _ _ _ _ c.args.self.now c.send.new.self (g.D.StillDesk.seen c.args.desk.now) (g.D.StillDesk.seen c.answer_request-answer.new.desk) _
     c.moment_of-moment.result c.answer_request-answer.result.reply c.answer_request-answer.result.places.items c.answer_request-answer.result.cut
     c.moment_of-moment.ensures c.answer_request-answer.ensures
-    (account_in-pushed c.args.self.now c.send.new.self (record { request = c.args.request.now; moment = c.moment_of-moment.result; places = c.answer_request-answer.result.places.items; cut = c.answer_request-answer.result.cut; bytes = reply_bytes (is_head c.args.request.now) (closes c.args.request.now) c.answer_request-answer.result.reply })
     (ap (λ (s : Session). s.moments.items) c.send.ensures.kept ∙ c.push_reserved.ensures.items)
     (ap (λ (s : Session). map (λ v. v.items) s.places.items) c.send.ensures.kept ∙ ap (map (λ v. v.items)) c.push_reserved-2.ensures.items ∙ map_push (λ v. v.items) _ _)
-    (ap (λ (s : Session). s.cuts.items) c.send.ensures.kept ∙ c.push_reserved-3.ensures.items))
+    (ap (λ (s : Session). s.cuts.items) c.send.ensures.kept ∙ c.push_reserved-3.ensures.items)
     (ap (λ (s : Session). s.reader) c.send.ensures.kept) refl c.in-WriteFault.ensures.sends
 
 pub returns-then-closes-clause-serves : goal.returns-then-closes-clause-serves
@@ -23,10 +19,9 @@ returns-then-closes-clause-serves g c = λ left faults. (
   Answered-by _ _ _ _ c.args.self.now c.send.new.self (g.D.StillDesk.seen c.args.desk.now) (g.D.StillDesk.seen c.answer_request-answer.new.desk) _
       c.moment_of-moment.result c.answer_request-answer.result.reply c.answer_request-answer.result.places.items c.answer_request-answer.result.cut
       c.moment_of-moment.ensures c.answer_request-answer.ensures
-      (account_in-pushed c.args.self.now c.send.new.self (record { request = c.args.request.now; moment = c.moment_of-moment.result; places = c.answer_request-answer.result.places.items; cut = c.answer_request-answer.result.cut; bytes = reply_bytes (is_head c.args.request.now) (closes c.args.request.now) c.answer_request-answer.result.reply })
       (ap (λ (s : Session). s.moments.items) c.send.ensures.kept ∙ c.push_reserved.ensures.items)
       (ap (λ (s : Session). map (λ v. v.items) s.places.items) c.send.ensures.kept ∙ ap (map (λ v. v.items)) c.push_reserved-2.ensures.items ∙ map_push (λ v. v.items) _ _)
-      (ap (λ (s : Session). s.cuts.items) c.send.ensures.kept ∙ c.push_reserved-3.ensures.items))
+      (ap (λ (s : Session). s.cuts.items) c.send.ensures.kept ∙ c.push_reserved-3.ensures.items)
       (ap (λ (s : Session). s.reader) c.send.ensures.kept) refl c.in-Done.ensures.sends,
   sym c.closes.ensures ∙ c.if-closes.true,
 )
@@ -36,10 +31,9 @@ returns-clause-serves g c = λ left faults. (
   Answered-by _ _ _ _ c.args.self.now c.send.new.self (g.D.StillDesk.seen c.args.desk.now) (g.D.StillDesk.seen c.answer_request-answer.new.desk) _
       c.moment_of-moment.result c.answer_request-answer.result.reply c.answer_request-answer.result.places.items c.answer_request-answer.result.cut
       c.moment_of-moment.ensures c.answer_request-answer.ensures
-      (account_in-pushed c.args.self.now c.send.new.self (record { request = c.args.request.now; moment = c.moment_of-moment.result; places = c.answer_request-answer.result.places.items; cut = c.answer_request-answer.result.cut; bytes = reply_bytes (is_head c.args.request.now) (closes c.args.request.now) c.answer_request-answer.result.reply })
       (ap (λ (s : Session). s.moments.items) c.send.ensures.kept ∙ c.push_reserved.ensures.items)
       (ap (λ (s : Session). map (λ v. v.items) s.places.items) c.send.ensures.kept ∙ ap (map (λ v. v.items)) c.push_reserved-2.ensures.items ∙ map_push (λ v. v.items) _ _)
-      (ap (λ (s : Session). s.cuts.items) c.send.ensures.kept ∙ c.push_reserved-3.ensures.items))
+      (ap (λ (s : Session). s.cuts.items) c.send.ensures.kept ∙ c.push_reserved-3.ensures.items)
       (ap (λ (s : Session). s.reader) c.send.ensures.kept) refl c.in-Done.ensures.sends,
   sym c.closes.ensures ∙ c.if-closes.false,
 )
