@@ -1,9 +1,10 @@
 -- The laws of journals.
-use Rattle.std.proofs.Common.{◌≡◌, ◌≤◌, ℕ, suc, List, [], ◌∷◌, ◌++◌, All, Option, Some, unwrap_or, nat_lt, append-nil, refl, ap, ◌∙◌, subst, arith}
+use Rattle.std.proofs.Common.{◌≡◌, ◌<◌, ◌≤◌, ℕ, suc, List, [], ◌∷◌, ◌++◌, All, Option, Some, unwrap_or, nat_lt, append-nil, refl, sym, ap, ◌∙◌, subst, ⊎_elim, arith}
+use Rattle.std.proofs.lemmas.Bool.{cases_lt}
 use Rattle.std.proofs.lemmas.List.Elements.{filter-append, All-head, All-tail}
 use Rattle.ecr_model.specs.declared.journal.Line.{Line}
-use Rattle.ecr_model.specs.Journals.{past_from, past, below, replay, IsSoundFrom}
-use Rattle.ecr_model.specs.JournalLaws.{ReplayGoesOn, AFirstPartIsSound, ASoundJournalGrows, WhatWasStays, TheLastIsNow}
+use Rattle.ecr_model.specs.Journals.{past_from, past, below, between, replay, IsSoundFrom}
+use Rattle.ecr_model.specs.JournalLaws.{ReplayGoesOn, AFirstPartIsSound, ASoundJournalGrows, WhatWasStays, TheLastIsNow, TheLinesBetweenLeadOn}
 
 module _ {S : Type 0} (after : S → Line → Option S) where
   -- a journal and further lines lead to what those make of its state
@@ -58,6 +59,44 @@ module _ {S : Type 0} (after : S → Line → Option S) where
       let rest : below ticket ls ≡ ls = below-all (suc l.ticket) sound.1.0 ls ticket sound.1.2 past in
       grind (arith, later, past, rest)
 
+  -- of a sound journal that begins at a ticket or later no line is below it
+  pub below-late : (low : ℕ) (s : S) (lines : List Line) (ticket : ℕ) → IsSoundFrom after low s lines → ticket ≤ low → below ticket lines ≡ []
+  unfolding IsSoundFrom
+  below-late low s [] ticket sound late = refl
+  below-late low s (l ∷ ls) ticket sound late =
+      let first : low ≤ l.ticket = sound.0 in
+      let onward : ticket ≤ suc l.ticket = omega arith in
+      let rest : below ticket ls ≡ [] = below-late (suc l.ticket) sound.1.0 ls ticket sound.1.2 onward in
+      grind (arith, late, first, rest)
+
+  -- and those below a later ticket are those between the two
+  pub between-late : (low : ℕ) (s : S) (lines : List Line) (ticket later : ℕ)
+      → IsSoundFrom after low s lines → ticket ≤ low → between ticket later lines ≡ below later lines
+  unfolding IsSoundFrom
+  between-late low s [] ticket later sound late = refl
+  between-late low s (l ∷ ls) ticket later sound late =
+      let first : low ≤ l.ticket = sound.0 in
+      let onward : ticket ≤ suc l.ticket = omega arith in
+      let rest : between ticket later ls ≡ below later ls = between-late (suc l.ticket) sound.1.0 ls ticket later sound.1.2 onward in
+      grind (arith, late, first, rest)
+
+  -- the lines below a later ticket are those below an earlier one, and then those between the two
+  pub below-between : (low : ℕ) (s : S) (lines : List Line) (ticket later : ℕ)
+      → IsSoundFrom after low s lines → ticket ≤ later → below later lines ≡ below ticket lines ++ between ticket later lines
+  unfolding IsSoundFrom
+  below-between low s [] ticket later sound order = refl
+  below-between low s (l ∷ ls) ticket later sound order =
+      let rest : below later ls ≡ below ticket ls ++ between ticket later ls =
+      below-between (suc l.ticket) sound.1.0 ls ticket later sound.1.2 order in
+      ⊎_elim (λ (before : l.ticket < ticket). grind (arith, before, order, rest)) late (cases_lt l.ticket ticket)
+    where
+      late : ticket ≤ l.ticket → below later (l ∷ ls) ≡ below ticket (l ∷ ls) ++ between ticket later (l ∷ ls)
+      late past =
+          let here : IsSoundFrom after l.ticket s (l ∷ ls) = (omega arith, sound.1) in
+          let none : below ticket (l ∷ ls) ≡ [] = below-late l.ticket s (l ∷ ls) ticket here past in
+          let all : between ticket later (l ∷ ls) ≡ below later (l ∷ ls) = between-late l.ticket s (l ∷ ls) ticket later here past in
+          sym all ∙ ap (λ ms. ms ++ between ticket later (l ∷ ls)) (sym none)
+
 -- no line at that ticket or later is below it
 pub below-none : (lines : List Line) (ticket : ℕ) → All (λ l. ticket ≤ l.ticket) lines → below ticket lines ≡ []
 below-none [] ticket late = refl
@@ -86,3 +125,8 @@ module _ {S : Type 0} (after : S → Line → Option S) (first : S) where
 
   pub the_last_is_now : TheLastIsNow after first
   the_last_is_now lines ticket sound past = ap (replay after first) (below-all after 0 first lines ticket sound past)
+
+  pub the_lines_between_lead_on : TheLinesBetweenLeadOn after first
+  the_lines_between_lead_on lines ticket later sound order =
+      ap (replay after first) (below-between after 0 first lines ticket later sound order)
+      ∙ replay-append after first (below ticket lines) (between ticket later lines)

@@ -14,8 +14,10 @@ use Rattle.ecr_model.specs.declared.reply.SiteReply.TheVariants as site_replies
 use Rattle.ecr_model.specs.declared.repository.Mutability.TheVariants.{Mutable, Immutable}
 use Rattle.ecr_model.specs.Directories as directories
 use Rattle.ecr_model.specs.Directories.{SiteFrame}
+use Rattle.ecr_model.specs.Journals as journals
+use Rattle.ecr_model.specs.Journals.{between}
 use Rattle.ecr_model.specs.Limits.{standard}
-use Rattle.ecr_model.specs.Steps.{Turn, reply_at, line_of}
+use Rattle.ecr_model.specs.Steps.{Turn, after_line, repository_at, reply_at, line_of}
 
 -- `team/app` at `us-east-1/111122223333`
 abbrev pub app : RepoKey
@@ -52,6 +54,18 @@ pub record ARepositoryComesAndGoes : Type 0 where
   pub gone_twice : reply 6 (Delete true) ≡ replies.Refused RepositoryNotFound
   pub unset : reply 6 (SetMutability Mutable) ≡ replies.Refused RepositoryNotFound
   pub again : row 1700000003 (reply 7 Describe)
+
+-- the lines from ticket 1 on and below 6: it is set and deleted
+abbrev pub middle : List Line
+middle = line_of 0 (turn 1 1700000001) (SetMutability Immutable) ∷ line_of 3 (turn 5 1700000002) (Delete false) ∷ []
+
+-- the line at the first ticket is among those between, the line at the second isn't; they lead from the state as at the one
+-- to that as at the other
+pub record LinesStandBetween : Type 0 where
+  pub are : between 1 6 history ≡ middle
+  pub none : between 2 5 history ≡ []
+  pub all : between 0 7 history ≡ history
+  pub lead_on : repository_at app standard history 6 ≡ journals.replay (after_line app standard) (repository_at app standard history 1) middle
 
 -- the name with that text
 abbrev pub name : List ℕ → Name

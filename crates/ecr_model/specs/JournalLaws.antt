@@ -9,7 +9,7 @@ use Rattle.ecr_model.specs.declared.reply.Reply.TheVariants.{Refused}
 use Rattle.ecr_model.specs.declared.repository.Repository.{Repository}
 use Rattle.ecr_model.specs.Directories as directories
 use Rattle.ecr_model.specs.Directories.{SiteFrame}
-use Rattle.ecr_model.specs.Journals.{past, replay, IsSound, state_at}
+use Rattle.ecr_model.specs.Journals.{past, between, replay, IsSound, state_at}
 use Rattle.ecr_model.specs.Steps as steps
 use Rattle.ecr_model.specs.Steps.{Turn, step}
 
@@ -38,6 +38,11 @@ module _ {S : Type 0} (after : S → Line → Option S) (first : S) where
   abbrev pub TheLastIsNow : Type 0
   TheLastIsNow = (lines : List Line) (ticket : ℕ) → IsSound after first lines → past lines ≤ ticket
       → state_at after first lines ticket ≡ replay after first lines
+
+  -- the lines between two tickets lead from the state as at the one to that as at the other
+  abbrev pub TheLinesBetweenLeadOn : Type 0
+  TheLinesBetweenLeadOn = (lines : List Line) (ticket later : ℕ) → IsSound after first lines → ticket ≤ later
+      → state_at after first lines later ≡ replay after (state_at after first lines ticket) (between ticket later lines)
 
 -- a call that is refused changes nothing
 abbrev pub ARefusalChangesNothing : Type 0
@@ -85,3 +90,11 @@ NowOfRepositories = (key : RepoKey) (limits : Limits) → TheLastIsNow (steps.af
 -- `TheLastIsNow`, of each directory
 abbrev pub NowOfDirectories : Type 0
 NowOfDirectories = (frame : SiteFrame) → TheLastIsNow (directories.after_line frame) directories.first_directory
+
+-- `TheLinesBetweenLeadOn`, of each repository
+abbrev pub BetweenOfRepositories : Type 0
+BetweenOfRepositories = (key : RepoKey) (limits : Limits) → TheLinesBetweenLeadOn (steps.after_line key limits) steps.first_state
+
+-- `TheLinesBetweenLeadOn`, of each directory
+abbrev pub BetweenOfDirectories : Type 0
+BetweenOfDirectories = (frame : SiteFrame) → TheLinesBetweenLeadOn (directories.after_line frame) directories.first_directory

@@ -1,6 +1,6 @@
 -- Journals: a cell's lines in order, and the state that they lead to. Of this registry: docs/DECISIONS.md, "Journals".
 -- Tickets count from 0.
-use Rattle.std.specs.Prelude.{◌≡◌, ◌≤◌, ℕ, suc, nat_lt, List, [], ◌∷◌, Option, Some, filter, unwrap_or}
+use Rattle.std.specs.Prelude.{◌≡◌, ◌≤◌, ℕ, suc, ◌&&◌, nat_lt, nat_le, List, [], ◌∷◌, Option, Some, filter, unwrap_or}
 use Rattle.ecr_model.specs.declared.journal.Line.{Line}
 
 -- one more than the last ticket, or the low one where there is no line
@@ -15,6 +15,10 @@ past lines = past_from 0 lines
 -- the lines whose tickets are below this one
 abbrev pub below : ℕ → List Line → List Line
 below ticket = filter (λ l. nat_lt l.ticket ticket)
+
+-- the lines whose tickets are from the first one on and below the second
+abbrev pub between : ℕ → ℕ → List Line → List Line
+between first second = filter (λ l. nat_le first l.ticket && nat_lt l.ticket second)
 
 -- of states S, of which each is changed by a line, or isn't: then `after` is None
 module _ {S : Type 0} (after : S → Line → Option S) where

@@ -1,6 +1,6 @@
 // The laws of journals. The functions do nothing: their contracts are the laws.
-ghost use Rattle.ecr_model.specs.JournalExample.{ARepositoryComesAndGoes, NamesAreInOrder};
-ghost use Rattle.ecr_model.specs.JournalLaws.{ARefusalChangesNothing, FirstPartsOfDirectories, FirstPartsOfRepositories, GrowthOfDirectories, GrowthOfRepositories, NowOfDirectories, NowOfRepositories, PastOfDirectories, PastOfRepositories, ReplayOfDirectories, ReplayOfRepositories};
+ghost use Rattle.ecr_model.specs.JournalExample.{ARepositoryComesAndGoes, LinesStandBetween, NamesAreInOrder};
+ghost use Rattle.ecr_model.specs.JournalLaws.{ARefusalChangesNothing, BetweenOfDirectories, BetweenOfRepositories, FirstPartsOfDirectories, FirstPartsOfRepositories, GrowthOfDirectories, GrowthOfRepositories, NowOfDirectories, NowOfRepositories, PastOfDirectories, PastOfRepositories, ReplayOfDirectories, ReplayOfRepositories};
 
 /// A call on a repository that is refused changes nothing.
 pub fn a_refusal_changes_nothing()
@@ -37,10 +37,22 @@ pub fn the_last_is_now()
     ensures directories { NowOfDirectories }
 {}
 
+/// The lines of a sound journal from an earlier ticket on and below a later one lead from the state as at the earlier one
+/// to the state as at the later one.
+pub fn the_lines_between_lead_on()
+    ensures repositories { BetweenOfRepositories }
+    ensures directories { BetweenOfDirectories }
+{}
+
 /// The definitions, at one repository that is created, set, deleted and created again, come to the replies that are
 /// written out in `specs/JournalExample.antt`.
 pub fn a_repository_comes_and_goes()
     ensures { ARepositoryComesAndGoes }
+{}
+
+/// The lines of that repository between two tickets are those that are written out there, and lead on as it says.
+pub fn lines_stand_between()
+    ensures { LinesStandBetween }
 {}
 
 /// The definitions, at a directory with a limit of two names, come to what is written out there too.

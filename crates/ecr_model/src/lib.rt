@@ -38,8 +38,8 @@ pub use images::{Borne, BorneLayer, CopyFacts, Marked, PreviewRow, Row};
 pub use journal::{Act, CellJournal, CellKey, Entry, Frame, Limits, Line, Place};
 pub use journal_laws::{
     a_first_part_is_sound, a_refusal_changes_nothing, a_replay_goes_on,
-    a_repository_comes_and_goes, a_sound_journal_grows, names_are_in_order, the_last_is_now,
-    what_was_stays,
+    a_repository_comes_and_goes, a_sound_journal_grows, lines_stand_between, names_are_in_order,
+    the_last_is_now, the_lines_between_lead_on, what_was_stays,
 };
 pub use laws::{
     a_chunked_body_is_read, a_creation_is_kept, a_cut_changes_nothing,
