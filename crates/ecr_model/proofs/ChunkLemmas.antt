@@ -280,7 +280,7 @@ if_within-chunk limit so_far size part c n is = by (nat_le (so_far + size) limit
     by false is = absurd (cc)
 
 IsSaid-chunk_length : (limit so_far : ℕ) (bytes : List ℕ) (n : ℕ) (size : Option ℕ) (c : List ℕ) (m : ℕ)
-    → suc n ≤ length bytes → IsSaid limit so_far bytes n size (chunk c m) → m ≤ length bytes
+    → suc n ≤ length bytes → IsSaid limit so_far bytes n size (chunk c m) → (0 < m) × (m ≤ length bytes)
 IsSaid-chunk_length limit so_far bytes n None c m within is = absurd (cc)
 IsSaid-chunk_length limit so_far bytes n (Some zero) c m within is = absurd (none is.0 is.2)
   where
@@ -291,7 +291,7 @@ IsSaid-chunk_length limit so_far bytes n (Some (suc k)) c m within is =
     let parts : (c ≡ take (suc k) (drop (suc n) bytes)) × (m ≡ suc n + suc k + 2) × (suc k + 2 ≤ length (drop (suc n) bytes)) =
     chunk_of-chunk (suc n) (drop (suc n) bytes) (suc k) c m
     (if_within-chunk limit so_far (suc k) (chunk_of (suc n) (drop (suc n) bytes) (suc k)) c m (sym is)) in
-    omega (arith, parts.1, parts.2, length-drop (suc n) bytes)
+    (omega (arith, parts.1), omega (arith, parts.1, parts.2, length-drop (suc n) bytes))
 
 IsSaid-last_length : (limit so_far : ℕ) (bytes : List ℕ) (n : ℕ) (size : Option ℕ) (m : ℕ)
     → suc n ≤ length bytes → IsSaid limit so_far bytes n size (last_chunk m) → m ≤ length bytes
@@ -327,7 +327,7 @@ IsSaid-last_length limit so_far bytes n (Some (suc k)) m within is = absurd (non
         by false same = cc
 
 IsLined-chunk_length : (limit so_far : ℕ) (bytes : List ℕ) (end size : Option ℕ) (c : List ℕ) (m : ℕ) → line_end bytes ≡ end
-    → IsLined limit so_far bytes end size (chunk c m) → m ≤ length bytes
+    → IsLined limit so_far bytes end size (chunk c m) → (0 < m) × (m ≤ length bytes)
 IsLined-chunk_length limit so_far bytes None size c m ends is = absurd (cc)
 IsLined-chunk_length limit so_far bytes (Some n) size c m ends is =
     IsSaid-chunk_length limit so_far bytes n size c m (omega (arith, (line_end-is bytes n ends).1)) is
@@ -338,9 +338,14 @@ IsLined-last_length limit so_far bytes None size m ends is = absurd (cc)
 IsLined-last_length limit so_far bytes (Some n) size m ends is =
     IsSaid-last_length limit so_far bytes n size m (omega (arith, (line_end-is bytes n ends).1)) is
 
+pub IsPart-chunk_positive : (limit so_far : ℕ) (bytes c : List ℕ) (n : ℕ) → IsPart limit so_far bytes (chunk c n) → 0 < n
+IsPart-chunk_positive limit so_far bytes c n is =
+    (IsLined-chunk_length limit so_far bytes (line_end bytes) is.size c n refl is.is).0
+
 pub IsPart-chunk_length : (limit so_far : ℕ) (bytes c : List ℕ) (n : ℕ) → IsPart limit so_far bytes (chunk c n)
     → n ≤ length bytes
-IsPart-chunk_length limit so_far bytes c n is = IsLined-chunk_length limit so_far bytes (line_end bytes) is.size c n refl is.is
+IsPart-chunk_length limit so_far bytes c n is =
+    (IsLined-chunk_length limit so_far bytes (line_end bytes) is.size c n refl is.is).1
 
 pub IsPart-last_length : (limit so_far : ℕ) (bytes : List ℕ) (n : ℕ) → IsPart limit so_far bytes (last_chunk n)
     → n ≤ length bytes

@@ -3,11 +3,13 @@ pub mod NamesLemmas
 pub mod DigestsLemmas
 pub mod SitesLemmas
 pub mod DocumentLemmas
+pub mod DecisionLemmas
 pub mod FramingLemmas
 pub mod ChunkLemmas
 pub mod PartLemmas
 pub mod FrontLemmas
 pub mod StreamLemmas
+pub mod ReadingLemmas
 pub mod SessionLemmas
 pub mod EndLemmas
 pub mod ExampleLemmas

@@ -3,11 +3,16 @@ use Rattle.std.specs.Prelude.{◌≡◌, ℕ, Bool, true, false, List, ◌++◌}
 use Rattle.ecr_model.specs.declared.http.Request.{Request}
 use Rattle.ecr_model.specs.Stream.{Ending, ended, closed, truncated, bad_at, long_at, more, Tail, Reads}
 
--- bytes have one reading: the same requests, and the same tail
+-- bytes have at most one reading: the same requests, and the same tail
 abbrev pub RequestsAreDetermined : Type 0
 RequestsAreDetermined =
     (bytes : List ℕ) (over : Bool) (requests others : List Request) (tail end : Tail)
     → Reads bytes over requests tail → Reads bytes over others end → (requests ≡ others) × (tail ≡ end)
+
+-- bytes have at least one reading, whether more are to come or not
+abbrev pub BytesHaveAReading : Type 0
+BytesHaveAReading =
+    (bytes : List ℕ) (over : Bool) → (requests : List Request) × (tail : Tail) × Reads bytes over requests tail
 
 -- whether the bytes show that nothing behind them counts
 abbrev pub is_last : Ending → Bool

@@ -2,11 +2,16 @@
 ghost use Rattle.ecr_model.specs.Example.{AChunkedBodyIsRead, AFirstCreationIsAnswered, AFirstRequestIsRead, AFirstSessionIsWritten};
 ghost use Rattle.ecr_model.specs.ScriptLaws.{ACreationIsKept, NotFoundHasItsCause};
 ghost use Rattle.ecr_model.specs.SessionLaws.{AFixedMomentIsEach, OutputIsDetermined, PlacesAreFresh, SessionsKeepJournalsSound, TheClockTellsTheMoments, TheInputDecidesTheEnd};
-ghost use Rattle.ecr_model.specs.StreamLaws.{ACutChangesNothing, AnEndStays, RequestsAreDetermined};
+ghost use Rattle.ecr_model.specs.StreamLaws.{ACutChangesNothing, AnEndStays, BytesHaveAReading, RequestsAreDetermined};
 
 /// The bytes of a stream determine its requests, and how it goes on after them.
 pub fn requests_are_determined()
     ensures { RequestsAreDetermined }
+{}
+
+/// Each stream of bytes has requests, and a way to go on after them.
+pub fn bytes_have_a_reading()
+    ensures { BytesHaveAReading }
 {}
 
 /// Where the bytes of a stream show that nothing further counts, what follows changes neither that nor the requests

@@ -44,8 +44,8 @@ pub use journal_laws::{
 pub use laws::{
     a_chunked_body_is_read, a_creation_is_kept, a_cut_changes_nothing,
     a_first_creation_is_answered, a_first_request_is_read, a_first_session_is_written,
-    an_end_stays, not_found_has_its_cause, output_is_determined, requests_are_determined,
-    the_input_decides_the_end,
+    an_end_stays, bytes_have_a_reading, not_found_has_its_cause, output_is_determined,
+    requests_are_determined, the_input_decides_the_end,
 };
 pub use lifecycle::{Choose, Count, Policy, PolicyFault, Rule};
 pub use listed::Listed;

@@ -1,0 +1,5 @@
+use Rattle.ecr_model.proofs.ReadingLemmas.{bytes_have_a_reading}
+use Rattle.ecr_model.proofs.laws.bytes_have_a_reading.Goals as goal
+
+pub returns : goal.returns
+returns c = bytes_have_a_reading
