@@ -15,8 +15,8 @@ pub enum CellKey {
 pub struct Limits {
     /// Of a site's names, those of deleted repositories among them.
     pub names: u64,
-    /// Of a repository's images: below 2^32.
-    pub images: u64,
+    /// Of a repository's images: below 2^32, so that their places and counts fit.
+    pub images: u32,
     /// Of an image's tags.
     pub tags: u64,
     /// Of an upload's parts.
