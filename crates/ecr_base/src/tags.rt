@@ -3,7 +3,7 @@ ghost use Rattle.std.specs.Prelude.{◌≡◌, IfOk};
 ghost use Rattle.std.specs.List.{list_all};
 ghost use Rattle.ecr_model.specs.Tags.{begins_tag, is_tag, is_tag_byte, tag_of};
 
-use ecr_model::{Mem, Tag, Text};
+use ecr_model::{Mem, SharedText, Tag};
 use std::alloc::Global;
 
 /// The most bytes of a tag after its first (OCI Distribution 1.1, "Pulling manifests").
@@ -30,7 +30,7 @@ pub fn read_tag(alloc: Global, text: &[u8]) -> Result<Option<Tag>, Mem>
     if !is_tag(text) {
         return Ok(None);
     }
-    let text = Text::copy_of(alloc, text)?;
+    let text = SharedText::copy_of(alloc, text)?;
     Ok(Some(Tag { text }))
 }
 

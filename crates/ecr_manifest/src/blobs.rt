@@ -5,7 +5,7 @@ ghost use Rattle.ecr_model.specs.Manifests.{each_once, facts_of, is_no_descripto
 
 use crate::manifest::fault;
 use crate::once::each_once;
-use ecr_model::{Descriptor, Digest, Facts, Listed, ManifestFault, Mem, Text};
+use ecr_model::{Descriptor, Digest, Facts, Listed, ManifestFault, Mem, SharedText};
 use std::alloc::Global;
 
 /// The greatest sum of the stated sizes of an image.
@@ -107,7 +107,7 @@ fn facts_of(
     requires { size ≡ size_of list blobs.now }
     ensures { IfOk result (λ f. f ≡ facts_of list media.now blobs.now) }
 {
-    let media = Text::copy_of(alloc, media)?;
+    let media = SharedText::copy_of(alloc, media)?;
     if list {
         let children = each_once(alloc, digests(alloc, blobs)?.as_slice())?;
         let required = Listed::new(alloc);

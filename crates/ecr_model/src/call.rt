@@ -38,7 +38,7 @@ pub enum SiteCall {
 
 /// An image as it is asked for: by its digest, by a tag or by both, each well formed or not (Amazon ECR API Reference,
 /// `ImageIdentifier`).
-#[derive(Drop)]
+#[derive(Clone, Drop)]
 pub struct ImageId {
     pub digest: Option<Text>,
     pub tag: Option<Text>,
@@ -56,7 +56,7 @@ pub enum TagStatus {
 }
 
 /// An image that is put (Amazon ECR API Reference, `PutImage`).
-#[derive(Drop)]
+#[derive(Clone, Drop)]
 pub struct Put {
     /// The manifest's.
     pub digest: Digest,
@@ -64,4 +64,12 @@ pub struct Put {
     /// The digest that the manifest is asked to have.
     pub asked: Option<Digest>,
     pub tag: Option<Tag>,
+}
+
+impl Twin for ImageId {
+    ghost same = { λ x y h. Prim.grind arith };
+}
+
+impl Twin for Put {
+    ghost same = { λ x y h. Prim.grind arith };
 }

@@ -1,8 +1,10 @@
 // Directories: the names of a site, and where their pushes are copied.
-use crate::{Listed, Name, SiteId, Text};
+ghost use Rattle.std.proofs.Common.{arith};
+
+use crate::{Listed, Name, SiteId, Text, Twin};
 
 /// A rule of a replication configuration (Amazon ECR API Reference, `ReplicationRule`).
-#[derive(Drop)]
+#[derive(Clone, Drop)]
 pub struct ReplicationRule {
     pub destinations: Listed<SiteId>,
     /// Prefixes of the names that it covers; without one it covers all.
@@ -10,7 +12,7 @@ pub struct ReplicationRule {
 }
 
 /// Where a site's pushes are copied to (Amazon ECR API Reference, `ReplicationConfiguration`).
-#[derive(Drop)]
+#[derive(Clone, Drop)]
 pub struct Configuration {
     pub rules: Listed<ReplicationRule>,
 }
@@ -32,4 +34,12 @@ pub enum Registered {
     Known,
     /// So many names are registered, which is the limit. Nothing changed.
     Full { limit: u64, count: u64 },
+}
+
+impl Twin for ReplicationRule {
+    ghost same = { λ x y h. Prim.grind arith };
+}
+
+impl Twin for Configuration {
+    ghost same = { λ x y h. Prim.grind arith };
 }

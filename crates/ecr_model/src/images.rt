@@ -1,8 +1,10 @@
 // Images as rows.
-use crate::{Digest, Facts, Listed, Moment, Tag};
+ghost use Rattle.std.proofs.Common.{arith};
+
+use crate::{Digest, Facts, Listed, Moment, Tag, Twin};
 
 /// A stored image.
-#[derive(Drop)]
+#[derive(Clone, Drop)]
 pub struct Row {
     /// Its number in its repository's name, from 1.
     pub birth: u64,
@@ -25,7 +27,7 @@ pub struct Marked {
 }
 
 /// An image that a lifecycle policy would delete (Amazon ECR API Reference, `LifecyclePolicyPreviewResult`).
-#[derive(Drop)]
+#[derive(Clone, Drop)]
 pub struct PreviewRow {
     pub digest: Digest,
     /// In the order of their bytes.
@@ -45,7 +47,7 @@ pub struct BorneLayer {
 }
 
 /// An image as a copy carries it.
-#[derive(Drop)]
+#[derive(Clone, Drop)]
 pub struct Borne {
     pub digest: Digest,
     pub facts: Facts,
@@ -53,11 +55,31 @@ pub struct Borne {
 }
 
 /// What a copy carries.
-#[derive(Drop)]
+#[derive(Clone, Drop)]
 pub struct CopyFacts {
     /// That of the pushed image.
     pub digest: Digest,
     pub tag: Option<Tag>,
     /// The pushed image, and before it all that it names, each once and by birth.
     pub bundle: Listed<Borne>,
+}
+
+impl Twin for Row {
+    ghost same = { λ x y h. Prim.grind arith };
+}
+
+impl Twin for PreviewRow {
+    ghost same = { λ x y h. Prim.grind arith };
+}
+
+impl Twin for BorneLayer {
+    ghost same = { λ x y h. Prim.grind arith };
+}
+
+impl Twin for Borne {
+    ghost same = { λ x y h. Prim.grind arith };
+}
+
+impl Twin for CopyFacts {
+    ghost same = { λ x y h. Prim.grind arith };
 }

@@ -1,8 +1,10 @@
 // Lifecycle policies (Amazon ECR User Guide, lifecycle policies).
-use crate::{Listed, Text};
+ghost use Rattle.std.proofs.Common.{arith};
+
+use crate::{Listed, Text, Twin};
 
 /// A lifecycle policy.
-#[derive(Drop)]
+#[derive(Clone, Drop)]
 pub struct Policy {
     /// The text as it was put.
     pub text: Text,
@@ -20,7 +22,7 @@ pub struct PolicyFault {
 }
 
 /// A rule of a lifecycle policy: the images that it chooses, and how many of them it keeps.
-#[derive(Drop)]
+#[derive(Clone, Drop)]
 pub struct Rule {
     /// `rulePriority`, from 1 to 2,147,483,647. A lower number goes first.
     pub priority: u32,
@@ -29,7 +31,7 @@ pub struct Rule {
 }
 
 /// The images that a rule chooses.
-#[derive(Drop)]
+#[derive(Clone, Drop)]
 pub enum Choose {
     /// `untagged`: those without tags.
     Untagged,
@@ -46,4 +48,16 @@ pub enum Count {
     MoreThan(u32),
     /// `sinceImagePushed`: those pushed more than so many days ago.
     OlderDays(u32),
+}
+
+impl Twin for Policy {
+    ghost same = { λ x y h. Prim.grind arith };
+}
+
+impl Twin for Rule {
+    ghost same = { λ x y h. Prim.grind arith };
+}
+
+impl Twin for Choose {
+    ghost same = { λ x y h. Prim.grind arith };
 }

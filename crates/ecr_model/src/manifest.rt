@@ -1,19 +1,25 @@
 // Manifests of images and of lists, as they are read.
-use crate::{Digest, Listed, Text};
+ghost use Rattle.std.proofs.Common.{arith};
+
+use crate::{Digest, Listed, SharedText, Twin};
 
 /// What is kept of a manifest (OCI Image 1.1, image manifest and image index).
-#[derive(Drop)]
+#[derive(Clone, Drop)]
 pub struct Facts {
     /// Whether it is a manifest list.
     pub list: bool,
     /// Its media type.
-    pub media: Text,
+    pub media: SharedText,
     /// The digests of the config and of the layers that must be stored, in order, each once.
     pub required: Listed<Digest>,
     /// The digests that a list names, in order, each once.
     pub children: Listed<Digest>,
     /// The stated sizes of the config and of the layers, added up, in bytes; 0 for a list.
     pub size: u64,
+}
+
+impl Twin for Facts {
+    ghost same = { λ x y h. Prim.grind arith };
 }
 
 /// What is kept of a descriptor (OCI Image 1.1, descriptor).

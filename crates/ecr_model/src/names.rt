@@ -1,12 +1,14 @@
 // Sites, repositories, tags, digests and moments.
-ghost use Rattle.std.specs.Prelude.{◌≡◌, Some, refl, bytes_eq};
-ghost use Rattle.std.proofs.Common.{arith};
+ghost use Rattle.std.specs.Prelude.{◌≡◌, ◌∷◌, [], Some, refl, bytes_eq};
+ghost use Rattle.std.proofs.Common.{arith, rules};
+ghost use Rattle.std.specs.Cmp.Rules.{hashing};
 ghost use Rattle.std.specs.Cmp.{on_equiv, on_per, on_po, on_total, partial_equiv_from_equiv};
 ghost use Rattle.std.specs.Cmp.Lexicographic.{slice_cmp, nat_list_eq_equiv, nat_list_cmp_total, texts_po, texts_ties};
 ghost use Rattle.std.specs.Ordering.{nat_cmp};
 
-use crate::{SharedText, Text, Twin};
+use crate::{SharedText, Twin};
 use std::cmp::Ordering;
+use std::hash::{Hash, Hasher};
 
 /// A moment: whole seconds since 1970-01-01T00:00:00Z, at most [`MAX_MOMENT`].
 pub type Moment = u64;
@@ -21,9 +23,9 @@ pub struct Name {
 }
 
 /// A tag (OCI Distribution 1.1, "Pulling manifests", `<reference>` as a tag): the text of it, well formed or not.
-#[derive(Clone, Drop)]
+#[derive(Clone, Drop, PartialEq, Eq, Hash)]
 pub struct Tag {
-    pub text: Text,
+    pub text: SharedText,
 }
 
 /// A site: one region of one account. Sites are in the order of their regions, and then of their accounts.
@@ -49,7 +51,7 @@ pub struct Digest {
 }
 
 /// A copy: what the push of that ticket at its source owes to one destination.
-#[derive(Drop)]
+#[derive(Clone, Drop)]
 pub struct CopyId {
     pub source: RepoKey,
     pub ticket: u64,
@@ -70,6 +72,25 @@ impl Twin for SiteId {
 
 impl Twin for RepoKey {
     ghost same = { λ x y h. Prim.grind arith };
+}
+
+impl Twin for Digest {
+    ghost same = { λ x y h. Prim.grind arith };
+}
+
+impl Twin for CopyId {
+    ghost same = { λ x y h. Prim.grind arith };
+}
+
+// All bytes are one write.
+impl Hash for Digest {
+    ghost hash_input = { λ d. d.bytes ∷ [] };
+
+    ghost respects_eq = { Prim.search (hashing, rules) };
+
+    fn hash<H: Hasher>(&self, state: &mut H) {
+        state.write(&self.bytes);
+    }
 }
 
 impl PartialEq for Name {
@@ -107,5 +128,28 @@ impl Ord for Name {
 
     fn cmp(&self, other: &Name) -> Ordering {
         self.text.as_bytes().cmp(other.text.as_bytes())
+    }
+}
+
+#[cfg(test)]
+mod tests {
+    use crate::{Digest, SharedText, Tag};
+    use std::collections::HashMap;
+    use std::test::Fail;
+
+    #[test]
+    fn maps_find_tags_and_digests(rt: HostRuntime) -> Result<(), Fail> {
+        let latest = Tag {
+            text: SharedText::copy_of(rt.alloc(), b"latest")?,
+        };
+        let digest = Digest { bytes: [7; 32] };
+        let mut holders = HashMap::new(rt.alloc());
+        holders.insert(latest.clone()?, digest)?;
+        assert_eq!(rt; holders.get(&latest).copied(), Some(digest));
+        let mut births = HashMap::new(rt.alloc());
+        births.insert(digest, 1u64)?;
+        assert_eq!(rt; births.get(&digest).copied(), Some(1));
+        assert_eq!(rt; births.get(&Digest { bytes: [8; 32] }).copied(), None);
+        Ok(())
     }
 }

@@ -4,11 +4,15 @@ ghost use Rattle.std.specs.Arc.{arc_value};
 ghost use Rattle.std.specs.Cmp.{on_equiv, on_per, on_po, on_total, partial_equiv_from_equiv};
 ghost use Rattle.std.specs.Cmp.Lexicographic.{slice_cmp, nat_list_eq_equiv, nat_list_cmp_total, texts_po, texts_ties};
 ghost use Rattle.std.specs.Ordering.{nat_cmp};
+ghost use Rattle.std.proofs.Common.{rules};
+ghost use Rattle.std.specs.Hash as fed;
+ghost use Rattle.std.specs.Cmp.Rules.{hashing};
 
 use crate::{Mem, Twin};
 use std::alloc::Global;
 use std::cmp::Ordering;
 use std::convert::AsSlice;
+use std::hash::{Hash, Hasher};
 use std::marker::Model;
 use std::sync::Arc;
 
@@ -77,6 +81,18 @@ impl PartialEq for SharedText {
 
 impl Eq for SharedText {
     ghost laws = { on_equiv (λ (t : List ℕ). t) nat_list_eq_equiv };
+}
+
+// As a `str` is hashed: the bytes, and then 255.
+impl Hash for SharedText {
+    ghost hash_input = { fed.str };
+
+    ghost respects_eq = { Prim.search (hashing, rules) };
+
+    fn hash<H: Hasher>(&self, state: &mut H) {
+        state.write(self.as_bytes());
+        state.write_u8(255);
+    }
 }
 
 impl PartialOrd for SharedText {
