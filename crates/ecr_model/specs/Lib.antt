@@ -28,6 +28,7 @@ pub mod Replies
 pub mod Rendered
 pub mod Scripts
 pub mod Soundness
+pub mod Views
 pub mod Requests
 pub mod ScriptLaws
 pub mod Posed
