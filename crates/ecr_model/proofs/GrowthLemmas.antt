@@ -7,6 +7,10 @@ pub Each-snoc : (P : Line → Type 0) (ls : List Line) (l : Line) → Each P ls 
 Each-snoc P [] l all p = (p, tt)
 Each-snoc P (x ∷ ls) l all p = (all.0, Each-snoc P ls l all.1 p)
 
+pub Each-append : (P : Line → Type 0) (xs ys : List Line) → Each P xs → Each P ys → Each P (xs ++ ys)
+Each-append P [] ys one other = other
+Each-append P (x ∷ xs) ys one other = (one.0, Each-append P xs ys one.1 other)
+
 pub Each-weaker : (P Q : Line → Type 0) → ((l : Line) → P l → Q l) → (ls : List Line) → Each P ls → Each Q ls
 Each-weaker P Q f [] all = tt
 Each-weaker P Q f (x ∷ ls) all = (f x all.0, Each-weaker P Q f ls all.1)

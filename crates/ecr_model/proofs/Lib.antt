@@ -26,3 +26,6 @@ pub mod CellLemmas
 pub mod CreationLemmas
 pub mod CauseLemmas
 pub mod SoundnessLemmas
+pub mod ViewLemmas
+pub mod StillViewLemmas
+pub mod ViewExampleLemmas

@@ -62,7 +62,7 @@ run_to-first (suc n) realm world (turn cell ask told) next within =
     run_to-first (suc n - count_of turned.entry) realm (entered realm world cell turned.entry) (told turned.told) next (omega (arith, within))
 
 -- up to the entries of its first turn and others, a script goes on behind that turn
-run_to-turn : {A : Type 0} (k m : ℕ) (realm : Realm) (world : World) (cell : CellKey) (ask : Ask) (told : Told → Script A)
+pub run_to-turn : {A : Type 0} (k m : ℕ) (realm : Realm) (world : World) (cell : CellKey) (ask : Ask) (told : Told → Script A)
     → k ≡ count_of (next_turn realm world cell ask).entry + m
     → run_to k realm world (turn cell ask told)
     ≡ run_to m realm (entered realm world cell (next_turn realm world cell ask).entry) (told (next_turn realm world cell ask).told)

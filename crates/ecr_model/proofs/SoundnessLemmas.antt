@@ -1,5 +1,5 @@
 -- Runs keep journals sound, and the places of their turns are fresh.
-use Rattle.std.proofs.Common.{◌≡◌, ◌≤◌, ◌<◌, ℕ, zero, suc, ◌+◌, ◌-◌, Bool, true, false, All, List, [], ◌∷◌, ◌++◌, Option, None, Some, is_some, if◌then◌else◌, option_map, refl, sym, ap, ◌∙◌, subst, arith}
+use Rattle.std.proofs.Common.{◌≡◌, ◌≤◌, ◌<◌, ℕ, zero, suc, ◌-◌, true, All, List, [], ◌∷◌, ◌++◌, Option, None, Some, if◌then◌else◌, option_map, refl, sym, ap, ◌∙◌, subst, arith}
 use Rattle.std.proofs.lemmas.Bool.{cond_both}
 use Rattle.std.proofs.lemmas.List.Elements.{All-nil, All-cons, All-head, All-tail}
 use Rattle.ecr_model.specs.declared.call.SiteCall.TheVariants as site_calls
@@ -140,7 +140,7 @@ past_from-push : (low : ℕ) (lines : List Line) (line : Line) → past_from low
 past_from-push low [] line = refl
 past_from-push low (l ∷ ls) line = past_from-push (suc l.ticket) ls line
 
-past-after : (caller : ℕ) (lines : List Line) (entry : Option Entry) → past lines ≤ past (lines_after caller (past lines) lines entry)
+pub past-after : (caller : ℕ) (lines : List Line) (entry : Option Entry) → past lines ≤ past (lines_after caller (past lines) lines entry)
 past-after caller lines None = omega arith
 past-after caller lines (Some entry) =
     let line : Line = record { ticket = past lines; caller = caller; entry = entry } in

@@ -29,6 +29,7 @@ pub mod Rendered
 pub mod Scripts
 pub mod Soundness
 pub mod Views
+pub mod ViewLaws
 pub mod Requests
 pub mod ScriptLaws
 pub mod Posed
@@ -39,4 +40,5 @@ pub mod SessionLaws
 pub mod Example
 pub mod JournalLaws
 pub mod JournalExample
+pub mod ViewExample
 pub mod ApiExample

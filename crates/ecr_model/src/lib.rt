@@ -26,6 +26,7 @@ mod repository;
 mod shared;
 mod text;
 mod twin;
+mod view_laws;
 
 pub use action::{Action, Domain, Member};
 pub use api_laws::{bodies_are_read, replies_are_written};
@@ -63,3 +64,7 @@ pub use shared::SharedText;
 pub use std::alloc::AllocError as Mem;
 pub use text::Text;
 pub use twin::Twin;
+pub use view_laws::{
+    a_call_is_visited, alone_turns_are_runs, answers_stay, own_lines_are_entered, turns_compose,
+    views_go_on, what_was_seen_stays,
+};
