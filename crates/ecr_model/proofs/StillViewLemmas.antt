@@ -15,7 +15,7 @@ use Rattle.ecr_model.specs.Scripts.{Ask, ends, turn, Realm, World, Turned, frame
 use Rattle.ecr_model.specs.Soundness.{IsSoundIn, AreSound}
 use Rattle.ecr_model.specs.Steps as steps
 use Rattle.ecr_model.specs.Views.{View, Views, with_view, Made, places_of, result_of, lines_of, Visit, Visits, Halts, alone_in, whole, views_of, unsealed}
-use Rattle.ecr_model.specs.ViewLaws.{RunsVisit, IsRun, VisitsRun, HaltsRunTo, RunsToHalt}
+use Rattle.ecr_model.specs.ViewLaws.{RunsVisit, IsRun, VisitsRun, IsFirst, HaltsRunTo, RunsToHalt}
 use Rattle.ecr_model.proofs.ScriptLemmas.{count_of-place, run_to-turn}
 use Rattle.ecr_model.proofs.SoundnessLemmas.{same_cell-same, sound-turn, sound-entered, past-after}
 use Rattle.ecr_model.proofs.ViewLemmas.{IsAhead-visit, turn_at-later, what_was_seen_stays}
@@ -202,10 +202,10 @@ module _ {A : Type 0} where
       }
 
   pub halts_run_to : HaltsRunTo A
-  unfolding Halts run_to
-  halts_run_to realm world now (ends a) [] v = v
+  unfolding Halts run run_to
+  halts_run_to realm world now (ends a) [] v = record { leaves = v; rest = []; places_are = refl }
   halts_run_to realm world now (ends a) (m ∷ ms) v = absurd v
-  halts_run_to realm world now (turn cell ask next) [] (inl is) = is
+  halts_run_to realm world now (turn cell ask next) [] (inl is) = record { leaves = is; rest = (run realm world (turn cell ask next)).places; places_are = refl }
   halts_run_to realm world now (turn cell ask next) [] (inr g) = let shared : true ≡ false = g.0 in absurd (cc)
   halts_run_to realm world now (turn cell ask next) (m ∷ ms) v =
       let turned : Turned = next_turn realm world cell ask in
@@ -215,11 +215,17 @@ module _ {A : Type 0} where
       subst (λ (views : Views). Halts (alone_in realm) views now (next turned.told) ms) (views_of-entered realm world cell turned.entry)
       (subst (λ (w : View). Halts (alone_in realm) (with_view (views_of world.journals) cell w) now (next turned.told) ms) is.view_is
       (subst (λ (t : Turned). Halts (alone_in realm) (with_view (views_of world.journals) cell v.0) now (next t.told) ms) is.result v.2)) in
+      let first : IsFirst A realm after (next turned.told) now ms = halts_run_to realm after now (next turned.told) ms rest in
       let counted : (if m.place.changed then 1 else 0) ≡ count_of turned.entry =
       ap (λ (p : Place). if p.changed then 1 else 0) is.place_is ∙ count_of-place turned.entry in
-      halts_run_to realm after now (next turned.told) ms rest
-      ∙ ap (λ (w : World). views_of w.journals)
-      (sym (run_to-turn (count_changed (places_of (m ∷ ms))) (count_changed (places_of ms)) realm world cell ask next (omega (arith, counted))))
+      record {
+        leaves = first.leaves
+            ∙ ap (λ (w : World). views_of w.journals)
+            (sym (run_to-turn (count_changed (places_of (m ∷ ms))) (count_changed (places_of ms)) realm world cell ask next (omega (arith, counted))));
+        rest = first.rest;
+        places_are = ap (λ ps. place_of cell (next_ticket world cell) turned ∷ ps) first.places_are
+            ∙ ap (λ p. p ∷ (places_of ms ++ first.rest)) (sym is.place_is);
+      }
 
   pub runs_to_halt : RunsToHalt A
   unfolding Halts run run_to

@@ -6,13 +6,14 @@ use Rattle.ecr_model.specs.declared.journal.CellKey.{CellKey}
 use Rattle.ecr_model.specs.declared.journal.CellKey.TheVariants.{Directory, Repository}
 use Rattle.ecr_model.specs.declared.journal.Entry.{Entry}
 use Rattle.ecr_model.specs.declared.journal.Line.{Line}
+use Rattle.ecr_model.specs.declared.journal.Place.{Place}
 use Rattle.ecr_model.specs.declared.names.Digest.{Digest}
 use Rattle.ecr_model.specs.Directories as directories
 use Rattle.ecr_model.specs.Growth.{Each, Follows}
 use Rattle.ecr_model.specs.Scripts.{Ask, knows, register, site_call, call, Script, ends, turn, then_do, Realm, Turned, frame_of, directory_turn, replies, turn_at, same_cell}
 use Rattle.ecr_model.specs.Steps as steps
-use Rattle.ecr_model.specs.Views.{View, Views, seen_of, past_of, caller_of, journals_of, with_view, Terms, Made, result_of, lines_of, KeepsCaller, Comes, Visit, Visits, Glances, Halts, IsAhead, AreAhead, answer_at, entered_in, own_of}
-use Rattle.ecr_model.specs.ViewLaws.{WhatWasSeenStays, VisitsGoOn, HaltsGoOn, AnswersStay, OwnLinesAreEntered, VisitsThen, AreParted, VisitsPart, HaltsFirst, HaltsThen}
+use Rattle.ecr_model.specs.Views.{View, Views, seen_of, past_of, caller_of, journals_of, with_view, Terms, Made, places_of, result_of, lines_of, KeepsCaller, Comes, Visit, Visits, Glances, Halts, IsAhead, AreAhead, answer_at, entered_in, own_of, unsealed}
+use Rattle.ecr_model.specs.ViewLaws.{WhatWasSeenStays, VisitsGoOn, HaltsGoOn, VisitsHalt, AnswersStay, OwnLinesAreEntered, VisitsThen, AreParted, VisitsPart, HaltsFirst, HaltsThen}
 use Rattle.ecr_model.proofs.GrowthLemmas.{Each-append, Each-weaker}
 use Rattle.ecr_model.proofs.JournalLemmas.{what_was_stays}
 use Rattle.ecr_model.proofs.SoundnessLemmas.{same_cell-same, same_cell-self}
@@ -311,3 +312,22 @@ module _ {A B : Type 0} where
   halts_then terms was mid now (turn cell ask told) next [] more a v w = absurd v
   halts_then terms was mid now (turn cell ask told) next (m ∷ ms) more a v w =
       (v.0, v.1, halts_then terms (with_view was cell v.0) mid now (told (result_of terms.realm cell v.0.seen ask m).told) next ms more a v.2 w)
+
+module _ {A : Type 0} where
+  pub visits_halt : VisitsHalt A
+  unfolding Visits Halts
+  visits_halt terms was now (ends a) [] answer v = v.0
+  visits_halt terms was now (ends a) (m ∷ ms) answer v = absurd v
+  visits_halt terms was now (turn cell ask told) [] answer v = absurd v
+  visits_halt terms was now (turn cell ask told) (m ∷ ms) answer v =
+      (v.0, v.1, visits_halt terms (with_view was cell v.0) now (told (result_of terms.realm cell v.0.seen ask m).told) ms answer v.2)
+
+-- ---- places
+
+pub places_of-append : (made more : List Made) → places_of (made ++ more) ≡ places_of made ++ places_of more
+places_of-append [] more = refl
+places_of-append (m ∷ ms) more = ap (λ ps. m.place ∷ ps) (places_of-append ms more)
+
+pub places_of-unsealed : (places : List Place) → places_of (unsealed places) ≡ places
+places_of-unsealed [] = refl
+places_of-unsealed (p ∷ ps) = ap (λ qs. p ∷ qs) (places_of-unsealed ps)

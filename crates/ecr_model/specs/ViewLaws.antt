@@ -1,6 +1,7 @@
 -- What holds of views, whatever the script.
 use Rattle.std.specs.Prelude.{◌≡◌, ◌≤◌, ℕ, List, ◌++◌, Option, Some}
 use Rattle.ecr_model.specs.declared.journal.CellKey.{CellKey}
+use Rattle.ecr_model.specs.declared.journal.Place.{Place}
 use Rattle.ecr_model.specs.declared.names.Digest.{Digest}
 use Rattle.ecr_model.specs.Scripts.{Ask, Script, then_do, Realm, World, turn_at, count_changed, run, run_to}
 use Rattle.ecr_model.specs.Soundness.{AreSound}
@@ -23,6 +24,11 @@ module _ (A : Type 0) where
   abbrev pub HaltsGoOn : Type 0
   HaltsGoOn = (terms : Terms) (was now : Views) (script : Script A) (made : List Made)
       → Halts terms was now script made → AreAhead was now
+
+  -- all turns of a script are its first turns too
+  abbrev pub VisitsHalt : Type 0
+  VisitsHalt = (terms : Terms) (was now : Views) (script : Script A) (made : List Made) (answer : A)
+      → Visits terms was now script made answer → Halts terms was now script made
 
   -- over all journals that are seen later, a script whose turns were made has its answer at their places
   abbrev pub AnswersStay : Type 0
@@ -54,11 +60,16 @@ module _ (A : Type 0) where
   VisitsRun = (realm : Realm) (world : World) (now : Views) (script : Script A) (made : List Made) (answer : A)
       → Visits (alone_in realm) (views_of world.journals) now script made answer → IsRun realm world script now made answer
 
-  -- a caller that is alone, sees whole journals and makes the first turns sees what the run up to their entries leaves
+  -- the turns are the first of the run, and the views those of the run up to their entries
+  pub record IsFirst (realm : Realm) (world : World) (script : Script A) (now : Views) (made : List Made) : Type 0 where
+    pub leaves : now ≡ views_of (run_to (count_changed (places_of made)) realm world script).journals
+    pub rest : List Place
+    pub places_are : (run realm world script).places ≡ places_of made ++ rest
+
+  -- a caller that is alone, sees whole journals and makes the first turns makes those of the run
   abbrev pub HaltsRunTo : Type 0
   HaltsRunTo = (realm : Realm) (world : World) (now : Views) (script : Script A) (made : List Made)
-      → Halts (alone_in realm) (views_of world.journals) now script made
-      → now ≡ views_of (run_to (count_changed (places_of made)) realm world script).journals
+      → Halts (alone_in realm) (views_of world.journals) now script made → IsFirst realm world script now made
 
   -- a run up to so many of its entries makes the first turns of the script, with so many entries
   abbrev pub RunsToHalt : Type 0

@@ -2,7 +2,7 @@
 ghost use Rattle.ecr_model.specs.Requests.{Decided};
 ghost use Rattle.ecr_model.specs.declared.reply.Reply.{Reply};
 ghost use Rattle.ecr_model.specs.ViewExample.{ACallIsVisited};
-ghost use Rattle.ecr_model.specs.ViewLaws.{AnswersStay, HaltsFirst, HaltsGoOn, HaltsRunTo, HaltsThen, OwnLinesAreEntered, RunsToHalt, RunsVisit, VisitsGoOn, VisitsPart, VisitsRun, VisitsThen, WhatWasSeenStays};
+ghost use Rattle.ecr_model.specs.ViewLaws.{AnswersStay, HaltsFirst, HaltsGoOn, HaltsRunTo, HaltsThen, OwnLinesAreEntered, RunsToHalt, RunsVisit, VisitsGoOn, VisitsHalt, VisitsPart, VisitsRun, VisitsThen, WhatWasSeenStays};
 
 /// A turn at a ticket that the caller has passed comes to the same over each journal that it sees later.
 pub fn what_was_seen_stays()
@@ -31,6 +31,7 @@ pub fn turns_compose()
     ensures parted { VisitsPart Reply Decided }
     ensures in_the_first { HaltsFirst Reply Decided }
     ensures in_the_second { HaltsThen Reply Decided }
+    ensures at_the_end { VisitsHalt Decided }
 {}
 
 /// A caller that is alone, and sees whole journals, makes the turns of the run, whole or up to some entry, and no others.

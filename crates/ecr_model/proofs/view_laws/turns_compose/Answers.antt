@@ -1,4 +1,4 @@
-use Rattle.ecr_model.proofs.ViewLemmas.{visits_then, visits_part, halts_first, halts_then}
+use Rattle.ecr_model.proofs.ViewLemmas.{visits_then, visits_part, halts_first, halts_then, visits_halt}
 use Rattle.ecr_model.proofs.view_laws.turns_compose.Goals as goal
 
 pub returns-clause-whole : goal.returns-clause-whole
@@ -12,3 +12,6 @@ returns-clause-in_the_first c = halts_first
 
 pub returns-clause-in_the_second : goal.returns-clause-in_the_second
 returns-clause-in_the_second c = halts_then
+
+pub returns-clause-at_the_end : goal.returns-clause-at_the_end
+returns-clause-at_the_end c = visits_halt
