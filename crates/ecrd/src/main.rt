@@ -39,12 +39,4 @@ fn run(rt: &HostRuntime, words: &[String]) -> ExitCode {
 }
 
 #[cfg(test)]
-mod action_tests;
-#[cfg(test)]
-mod http_tests;
-#[cfg(test)]
-mod limit_tests;
-#[cfg(test)]
-mod session_tests;
-#[cfg(test)]
-mod trial;
+mod tests;

@@ -1,5 +1,5 @@
 // Sessions at the limits of a head, a chunk's line, the trailers and a body: one byte less, as much, and one byte more.
-use crate::trial::{
+use crate::tests::harness::{
     BAD, BODY, CHUNKED, FIELDS, LONG_BODY, LONG_HEAD, MADE_BODY, MADE_HEAD, NOT_FOUND, POST, Parts,
     check_in, joined,
 };

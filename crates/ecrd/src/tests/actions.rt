@@ -1,5 +1,5 @@
 // Sessions by what is asked and answered (Amazon ECR API Reference).
-use crate::trial::{SITES, THERE, WORDS, check_created, created, creation, joined, run};
+use crate::tests::harness::{SITES, THERE, WORDS, check_created, created, creation, joined, run};
 use ecr_model::End;
 use std::alloc::{AllocError, Global};
 use std::process::Abort;
@@ -137,16 +137,15 @@ fn check_steps(
 }
 
 const APP: &str =
-    "{\"repository\":{\"createdAt\":1700000000,\"imageTagMutability\":\"MUTABLE\",\"registryId\":\"111122223333\",\"repositoryArn\":\"arn:aws:ecr:us-east-1:111122223333:repository/team/app\",\"repositoryName\":\"team/app\",\"repositoryUri\":\"111122223333.dkr.ecr.us-east-1.amazonaws.com/team/app\"}}";
+    r#"{"repository":{"createdAt":1700000000,"imageTagMutability":"MUTABLE","registryId":"111122223333","repositoryArn":"arn:aws:ecr:us-east-1:111122223333:repository/team/app","repositoryName":"team/app","repositoryUri":"111122223333.dkr.ecr.us-east-1.amazonaws.com/team/app"}}"#;
 
-const GONE: &str =
-    "{\"__type\":\"RepositoryNotFoundException\",\"message\":\"repository not found\"}";
+const GONE: &str = r#"{"__type":"RepositoryNotFoundException","message":"repository not found"}"#;
 
 #[test]
 fn a_repository_comes_and_goes(rt: HostRuntime) -> Result<(), Fail> {
-    let name = "{\"repositoryName\":\"team/app\"}";
-    let named = "{\"repositoryNames\":[\"team/app\"]}";
-    let fixed = "{\"repositoryName\":\"team/app\",\"imageTagMutability\":\"IMMUTABLE\"}";
+    let name = r#"{"repositoryName":"team/app"}"#;
+    let named = r#"{"repositoryNames":["team/app"]}"#;
+    let fixed = r#"{"repositoryName":"team/app","imageTagMutability":"IMMUTABLE"}"#;
     check_steps(
         &rt,
         rt.alloc(),
@@ -159,20 +158,20 @@ fn a_repository_comes_and_goes(rt: HostRuntime) -> Result<(), Fail> {
             (
                 "PutImageTagMutability",
                 fixed,
-                "{\"imageTagMutability\":\"IMMUTABLE\",\"registryId\":\"111122223333\",\"repositoryName\":\"team/app\"}",
+                r#"{"imageTagMutability":"IMMUTABLE","registryId":"111122223333","repositoryName":"team/app"}"#,
             ),
             // It is answered as it was.
             (
                 "DeleteRepository",
-                "{\"repositoryName\":\"team/app\",\"force\":true}",
-                "{\"repository\":{\"createdAt\":1700000000,\"imageTagMutability\":\"IMMUTABLE\",\"registryId\":\"111122223333\",\"repositoryArn\":\"arn:aws:ecr:us-east-1:111122223333:repository/team/app\",\"repositoryName\":\"team/app\",\"repositoryUri\":\"111122223333.dkr.ecr.us-east-1.amazonaws.com/team/app\"}}",
+                r#"{"repositoryName":"team/app","force":true}"#,
+                r#"{"repository":{"createdAt":1700000000,"imageTagMutability":"IMMUTABLE","registryId":"111122223333","repositoryArn":"arn:aws:ecr:us-east-1:111122223333:repository/team/app","repositoryName":"team/app","repositoryUri":"111122223333.dkr.ecr.us-east-1.amazonaws.com/team/app"}}"#,
             ),
             ("DescribeRepositories", named, GONE),
             // A name without its repository has a place in the page, and no row.
             (
                 "DescribeRepositories",
-                "{\"maxResults\":1}",
-                "{\"repositories\":[]}",
+                r#"{"maxResults":1}"#,
+                r#"{"repositories":[]}"#,
             ),
             ("CreateRepository", name, APP),
         ],
@@ -183,9 +182,9 @@ fn a_repository_comes_and_goes(rt: HostRuntime) -> Result<(), Fail> {
 #[test]
 fn repositories_are_described_page_by_page(rt: HostRuntime) -> Result<(), Fail> {
     let a1 =
-        "{\"createdAt\":1700000000,\"imageTagMutability\":\"MUTABLE\",\"registryId\":\"111122223333\",\"repositoryArn\":\"arn:aws:ecr:us-east-1:111122223333:repository/a1\",\"repositoryName\":\"a1\",\"repositoryUri\":\"111122223333.dkr.ecr.us-east-1.amazonaws.com/a1\"}";
+        r#"{"createdAt":1700000000,"imageTagMutability":"MUTABLE","registryId":"111122223333","repositoryArn":"arn:aws:ecr:us-east-1:111122223333:repository/a1","repositoryName":"a1","repositoryUri":"111122223333.dkr.ecr.us-east-1.amazonaws.com/a1"}"#;
     let b1 =
-        "{\"createdAt\":1700000000,\"imageTagMutability\":\"IMMUTABLE\",\"registryId\":\"111122223333\",\"repositoryArn\":\"arn:aws:ecr:us-east-1:111122223333:repository/b1\",\"repositoryName\":\"b1\",\"repositoryUri\":\"111122223333.dkr.ecr.us-east-1.amazonaws.com/b1\"}";
+        r#"{"createdAt":1700000000,"imageTagMutability":"IMMUTABLE","registryId":"111122223333","repositoryArn":"arn:aws:ecr:us-east-1:111122223333:repository/b1","repositoryName":"b1","repositoryUri":"111122223333.dkr.ecr.us-east-1.amazonaws.com/b1"}"#;
     let alloc = rt.alloc();
     let made_b1 = format!(in alloc; "{{\"repository\":{b1}}}")?;
     let made_a1 = format!(in alloc; "{{\"repository\":{a1}}}")?;
@@ -198,29 +197,33 @@ fn repositories_are_described_page_by_page(rt: HostRuntime) -> Result<(), Fail> 
     for (action, body, answer) in [
         (
             "CreateRepository",
-            "{\"repositoryName\":\"b1\",\"imageTagMutability\":\"IMMUTABLE\"}",
+            r#"{"repositoryName":"b1","imageTagMutability":"IMMUTABLE"}"#,
             made_b1.as_str(),
         ),
         (
             "CreateRepository",
-            "{\"repositoryName\":\"a1\"}",
+            r#"{"repositoryName":"a1"}"#,
             made_a1.as_str(),
         ),
-        ("DescribeRepositories", "{\"maxResults\":1}", first.as_str()),
         (
             "DescribeRepositories",
-            "{\"maxResults\":1,\"nextToken\":\"1\"}",
+            r#"{"maxResults":1}"#,
+            first.as_str(),
+        ),
+        (
+            "DescribeRepositories",
+            r#"{"maxResults":1,"nextToken":"1"}"#,
             second.as_str(),
         ),
         (
             "DescribeRepositories",
-            "{\"nextToken\":\"2\"}",
-            "{\"repositories\":[]}",
+            r#"{"nextToken":"2"}"#,
+            r#"{"repositories":[]}"#,
         ),
         ("DescribeRepositories", "{}", both.as_str()),
         (
             "DescribeRepositories",
-            "{\"repositoryNames\":[\"b1\",\"a1\",\"b1\"]}",
+            r#"{"repositoryNames":["b1","a1","b1"]}"#,
             asked.as_str(),
         ),
     ]
@@ -238,45 +241,45 @@ fn repositories_are_described_page_by_page(rt: HostRuntime) -> Result<(), Fail> 
 
 #[test]
 fn bodies_are_refused_in_one_order(rt: HostRuntime) -> Result<(), Fail> {
-    let serialization = "{\"__type\":\"SerializationException\",\"message\":\"serialization\"}";
+    let serialization = r#"{"__type":"SerializationException","message":"serialization"}"#;
     let name =
-        "{\"__type\":\"InvalidParameterException\",\"message\":\"invalid parameter: repositoryName\"}";
+        r#"{"__type":"InvalidParameterException","message":"invalid parameter: repositoryName"}"#;
     let registry =
-        "{\"__type\":\"InvalidParameterException\",\"message\":\"invalid parameter: registryId\"}";
+        r#"{"__type":"InvalidParameterException","message":"invalid parameter: registryId"}"#;
     check_steps(
         &rt,
         rt.alloc(),
         &SITES,
         &[
             ("CreateRepository", "[1]", serialization),
-            ("CreateRepository", "{\"repositoryName\":1}", serialization),
+            ("CreateRepository", r#"{"repositoryName":1}"#, serialization),
             ("CreateRepository", "{}", name),
             (
                 "CreateRepository",
-                "{\"registryId\":\"000000000000\",\"repositoryName\":\"a\"}",
+                r#"{"registryId":"000000000000","repositoryName":"a"}"#,
                 registry,
             ),
             (
                 "DeleteRepository",
-                "{\"repositoryName\":\"a\",\"force\":1}",
+                r#"{"repositoryName":"a","force":1}"#,
                 serialization,
             ),
             (
                 "PutImageTagMutability",
-                "{\"repositoryName\":\"ab\"}",
-                "{\"__type\":\"InvalidParameterException\",\"message\":\"invalid parameter: imageTagMutability\"}",
+                r#"{"repositoryName":"ab"}"#,
+                r#"{"__type":"InvalidParameterException","message":"invalid parameter: imageTagMutability"}"#,
             ),
             (
                 "DescribeRepositories",
-                "{\"repositoryNames\":[\"ab\"],\"nextToken\":\"1\"}",
-                "{\"__type\":\"InvalidParameterException\",\"message\":\"invalid parameter: nextToken\"}",
+                r#"{"repositoryNames":["ab"],"nextToken":"1"}"#,
+                r#"{"__type":"InvalidParameterException","message":"invalid parameter: nextToken"}"#,
             ),
             // The refusals left nothing.
-            ("DescribeRepositories", "{}", "{\"repositories\":[]}"),
+            ("DescribeRepositories", "{}", r#"{"repositories":[]}"#),
             (
                 "PutImage",
                 "{}",
-                "{\"__type\":\"UnknownOperationException\",\"message\":\"unknown operation\"}",
+                r#"{"__type":"UnknownOperationException","message":"unknown operation"}"#,
             ),
         ],
     )?;

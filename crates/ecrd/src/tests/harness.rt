@@ -76,20 +76,140 @@ pub(crate) fn check_in(
     Ok(())
 }
 
-// The parts of that case as an input give those of its output, in large pieces, and in pieces of 1, 2 and 7 bytes.
+// The parts of that case as an input, behind those parts, give those of its output, in large pieces, and in pieces of 1, 2
+// and 7 bytes.
 pub(crate) fn check(
     rt: &impl Abort,
     alloc: Global,
     number: usize,
+    front: Parts,
     case: &(Parts, Parts, End),
 ) -> Result<(), AllocError> {
-    let input = joined(alloc, case.0)?;
+    let mut input = joined(alloc, front)?;
+    input.extend_from_slice(&joined(alloc, case.0)?)?;
     let output = joined(alloc, case.1)?;
     for size in [1_000_000, 1, 2, 7] {
         check_in(rt, alloc, number, &input, &output, case.2, size)?;
     }
     Ok(())
 }
+
+// The message as bytes. `@` and a name stand for one of those below. Each line of a head ends with CR LF, `*` is the
+// length of the body in bytes, and the body is what stands behind the first empty line.
+fn put_message(alloc: Global, bytes: &mut Vec<u8>, message: &str) -> Result<(), AllocError> {
+    let message = match message.strip_prefix("@") {
+        Some(name) => named(name),
+        None => message,
+    };
+    match message.split_once("\n\n") {
+        Some((head, body)) => {
+            put_head(alloc, bytes, head, body.len())?;
+            bytes.extend_from_slice(body.as_bytes())
+        }
+        None => put_head(alloc, bytes, message, 0),
+    }
+}
+
+fn put_head(alloc: Global, bytes: &mut Vec<u8>, head: &str, size: usize) -> Result<(), AllocError> {
+    for line in head.split("\n") {
+        match line.strip_suffix("*") {
+            Some(front) => {
+                let line = format!(in alloc; "{front}{size}")?;
+                bytes.extend_from_slice(line.as_bytes())?;
+            }
+            None => bytes.extend_from_slice(line.as_bytes())?,
+        }
+        bytes.extend_from_slice(b"\r\n")?;
+    }
+    bytes.extend_from_slice(b"\r\n")
+}
+
+// The messages of a text, between lines of `----`, as bytes.
+fn messages(alloc: Global, text: &str) -> Result<Vec<u8>, AllocError> {
+    let mut bytes = Vec::new(alloc);
+    for message in text.trim().split("\n----\n") {
+        put_message(alloc, &mut bytes, message)?;
+    }
+    Ok(bytes)
+}
+
+// The requests before `====` are answered by the replies behind it, and the session ends like that, in large pieces, and
+// in pieces of 1, 2 and 7 bytes.
+pub(crate) fn check_text(
+    rt: &impl Abort,
+    alloc: Global,
+    name: &str,
+    text: &str,
+    end: End,
+) -> Result<(), AllocError> {
+    let (requests, replies) = text.split_once("\n====\n").unwrap_or((text, ""));
+    let input = messages(alloc, requests)?;
+    let output = messages(alloc, replies)?;
+    for size in [1_000_000, 1, 2, 7] {
+        let (ended, held) = run(alloc, &WORDS, &[], &input, &[size])?;
+        let held = str::from_utf8(&held).unwrap_or("");
+        let output = str::from_utf8(&output).unwrap_or("");
+        assert_eq!(rt; held, output, "{name} in pieces of {size}");
+        assert!(rt; ended.end == end, "{name} in pieces of {size}");
+    }
+    Ok(())
+}
+
+// The message of that name.
+fn named(name: &str) -> &'static str {
+    match name {
+        "create" => CREATE_TEXT,
+        "made" => MADE_TEXT,
+        "made and closed" => MADE_AND_CLOSED_TEXT,
+        "there" => THERE_TEXT,
+        "bad name" => BAD_NAME_TEXT,
+        "not found" => NOT_FOUND_TEXT,
+        _ => BAD_TEXT,
+    }
+}
+
+// A request that creates `team/app`.
+const CREATE_TEXT: &str = r#"POST / HTTP/1.1
+Host: localhost
+Content-Length: *
+X-Amz-Target: AmazonEC2ContainerRegistry_V20150921.CreateRepository
+
+{"repositoryName":"team/app"}"#;
+
+// The reply to it, and that where the session closes after it.
+const MADE_TEXT: &str = r#"HTTP/1.1 200 OK
+Content-Length: *
+Content-Type: application/x-amz-json-1.1
+
+{"repository":{"createdAt":1700000000,"imageTagMutability":"MUTABLE","registryId":"111122223333","repositoryArn":"arn:aws:ecr:us-east-1:111122223333:repository/team/app","repositoryName":"team/app","repositoryUri":"111122223333.dkr.ecr.us-east-1.amazonaws.com/team/app"}}"#;
+
+const MADE_AND_CLOSED_TEXT: &str = r#"HTTP/1.1 200 OK
+Connection: close
+Content-Length: *
+Content-Type: application/x-amz-json-1.1
+
+{"repository":{"createdAt":1700000000,"imageTagMutability":"MUTABLE","registryId":"111122223333","repositoryArn":"arn:aws:ecr:us-east-1:111122223333:repository/team/app","repositoryName":"team/app","repositoryUri":"111122223333.dkr.ecr.us-east-1.amazonaws.com/team/app"}}"#;
+
+// The reply to it where the repository is there.
+const THERE_TEXT: &str = r#"HTTP/1.1 400 Bad Request
+Content-Length: *
+Content-Type: application/x-amz-json-1.1
+
+{"__type":"RepositoryAlreadyExistsException","message":"repository already exists"}"#;
+
+const BAD_NAME_TEXT: &str = r#"HTTP/1.1 400 Bad Request
+Content-Length: *
+Content-Type: application/x-amz-json-1.1
+
+{"__type":"InvalidParameterException","message":"invalid parameter: repositoryName"}"#;
+
+const NOT_FOUND_TEXT: &str = r#"HTTP/1.1 404 Not Found
+Content-Length: 0"#;
+
+// The reply to what is no request.
+const BAD_TEXT: &str = r#"HTTP/1.1 400 Bad Request
+Connection: close
+Content-Length: 0"#;
 
 // A request that creates `team/app`, of 154 bytes.
 pub(crate) const CREATE: &str =
@@ -110,9 +230,6 @@ pub(crate) const BODY: &str = "{\"repositoryName\":\"team/app\"}";
 pub(crate) const MADE_HEAD: &str =
     "HTTP/1.1 200 OK\r\nContent-Length: 271\r\nContent-Type: application/x-amz-json-1.1\r\n\r\n";
 
-pub(crate) const MADE_AND_CLOSED: &str =
-    "HTTP/1.1 200 OK\r\nConnection: close\r\nContent-Length: 271\r\nContent-Type: application/x-amz-json-1.1\r\n\r\n";
-
 pub(crate) const MADE_BODY: &str =
     "{\"repository\":{\"createdAt\":1700000000,\"imageTagMutability\":\"MUTABLE\",\"registryId\":\"111122223333\",\"repositoryArn\":\"arn:aws:ecr:us-east-1:111122223333:repository/team/app\",\"repositoryName\":\"team/app\",\"repositoryUri\":\"111122223333.dkr.ecr.us-east-1.amazonaws.com/team/app\"}}";
 
@@ -126,9 +243,6 @@ pub(crate) const CONTINUE: &str = "HTTP/1.1 100 Continue\r\n\r\n";
 
 pub(crate) const NOT_FOUND: &str = "HTTP/1.1 404 Not Found\r\nContent-Length: 0\r\n\r\n";
 
-pub(crate) const NOT_FOUND_AND_CLOSED: &str =
-    "HTTP/1.1 404 Not Found\r\nConnection: close\r\nContent-Length: 0\r\n\r\n";
-
 pub(crate) const BAD: &str =
     "HTTP/1.1 400 Bad Request\r\nConnection: close\r\nContent-Length: 0\r\n\r\n";
 
@@ -137,9 +251,6 @@ pub(crate) const LONG_HEAD: &str =
 
 pub(crate) const LONG_BODY: &str =
     "HTTP/1.1 413 Content Too Large\r\nConnection: close\r\nContent-Length: 0\r\n\r\n";
-
-pub(crate) const NO_OBJECT: &str =
-    "HTTP/1.1 400 Bad Request\r\nContent-Length: 61\r\nContent-Type: application/x-amz-json-1.1\r\n\r\n{\"__type\":\"SerializationException\",\"message\":\"serialization\"}";
 
 // A request that creates a repository of that name, for that host.
 pub(crate) fn creation(alloc: Global, host: &str, name: &str) -> Result<String, AllocError> {

@@ -2,9 +2,9 @@
 ghost use Rattle.std.specs.Prelude.{◌≡◌, ◌<◌, length, None, Some};
 ghost use Rattle.ecr_cells.specs.Desks.{seen_of};
 
-use crate::trial::{
-    BODY, CONTINUE, CREATE, FIELDS, LENGTH, MADE_BODY, MADE_HEAD, POST, Parts, THERE, WORDS, check,
-    joined, words,
+use crate::tests::harness::{
+    BODY, CONTINUE, CREATE, FIELDS, LENGTH, MADE_BODY, MADE_HEAD, POST, Parts, THERE, WORDS,
+    check_text, joined, words,
 };
 use ecr_cells::SoloDesk;
 use ecr_model::{End, Limits, SharedText, SiteId};
@@ -16,20 +16,24 @@ use std::cell::Cell;
 use std::process::Abort;
 use std::test::Fail;
 
+const ABSENT: &str = r#"
+POST / HTTP/1.1
+Host: localhost
+X-Amz-Target: AmazonEC2ContainerRegistry_V20150921.PutImageTagMutability
+Content-Length: *
+
+{"repositoryName":"team/app","imageTagMutability":"IMMUTABLE"}
+====
+HTTP/1.1 400 Bad Request
+Content-Length: *
+Content-Type: application/x-amz-json-1.1
+
+{"__type":"RepositoryNotFoundException","message":"repository not found"}
+"#;
+
 #[test]
 fn an_absent_repository_has_no_mutability(rt: HostRuntime) -> Result<(), Fail> {
-    let case: (Parts, Parts, End) = (
-        &[(
-            "POST / HTTP/1.1\r\nHost: localhost\r\nContent-Length: 62\r\nX-Amz-Target: AmazonEC2ContainerRegistry_V20150921.PutImageTagMutability\r\n\r\n{\"repositoryName\":\"team/app\",\"imageTagMutability\":\"IMMUTABLE\"}",
-            2,
-        )],
-        &[(
-            "HTTP/1.1 400 Bad Request\r\nContent-Length: 73\r\nContent-Type: application/x-amz-json-1.1\r\n\r\n{\"__type\":\"RepositoryNotFoundException\",\"message\":\"repository not found\"}",
-            2,
-        )],
-        End::Whole,
-    );
-    check(&rt, rt.alloc(), 0, &case)?;
+    check_text(&rt, rt.alloc(), "absent", ABSENT, End::Whole)?;
     Ok(())
 }
 
