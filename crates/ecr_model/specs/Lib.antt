@@ -15,6 +15,7 @@ pub mod Hosts
 pub mod Uploads
 pub mod Limits
 pub mod Documents
+pub mod Conditions
 pub mod Policies
 pub mod Refusals
 pub mod Members

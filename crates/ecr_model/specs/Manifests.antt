@@ -4,6 +4,7 @@ use Rattle.std.specs.Prelude.{ℕ, suc, ◌+◌, ◌^◌, Bool, true, false, not
 use Rattle.std.specs.List.{before_first, filter_map, fold, list_any, position, sum_by}
 use Rattle.serde_json.specs.Data.{Data, Items, no_items, item}
 use Rattle.serde_json.specs.Find.{get, as_array, as_number, as_object, as_str, as_u64}
+use Rattle.ecr_model.specs.Conditions.{first_of}
 use Rattle.ecr_model.specs.declared.manifest.Descriptor.{Descriptor}
 use Rattle.ecr_model.specs.declared.manifest.Facts.{Facts}
 use Rattle.ecr_model.specs.declared.manifest.ManifestFault.{ManifestFault}
@@ -139,12 +140,6 @@ named config (Some entries) = filter_map some_of (config ∷ entries)
 abbrev pub cause_if : ℕ → Bool → Option ManifestFault
 cause_if cause true = Some (record { cause = cause; entry = 0 })
 cause_if cause false = None
-
--- the first that holds
-abbrev pub first_of : List (Option ManifestFault) → Option ManifestFault
-first_of [] = None
-first_of (Some fault ∷ rest) = Some fault
-first_of (None ∷ rest) = first_of rest
 
 -- the member `mediaType` isn't a text, or differs from the given one
 abbrev pub differs : Option (List ℕ) → Option (List ℕ) → Bool

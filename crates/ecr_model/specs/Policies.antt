@@ -1,10 +1,11 @@
 -- The reading of a lifecycle policy's text (Amazon ECR User Guide, lifecycle policies). Rules count from 1 in the
 -- order of their list, and rule 0 stands for the text. A member that is null is there.
-use Rattle.std.specs.Prelude.{ℕ, suc, Bool, true, false, not, ◌&&◌, ◌||◌, ◌==◌, ◌++◌, List, [], ◌∷◌, length, Option, Some, None, Result, Ok, Err, is_some, codes, nat_le, nat_lt, if◌then◌else◌, bytes_eq, option_and_then}
+use Rattle.std.specs.Prelude.{ℕ, suc, Bool, true, false, not, ◌&&◌, ◌||◌, ◌==◌, ◌++◌, List, [], ◌∷◌, length, Option, Some, None, Result, Ok, Err, is_some, codes, nat_le, nat_lt, if◌then◌else◌, bytes_eq, option_and_then, unwrap_or}
 use Rattle.std.specs.Option.{option_map_or}
 use Rattle.std.specs.List.{list_all, list_any, filter, cons_option}
-use Rattle.serde_json.specs.Data.{Data, Items, no_items, item, Members, no_members, member}
+use Rattle.serde_json.specs.Data.{Data, null, Items, no_items, item, Members, no_members, member}
 use Rattle.serde_json.specs.Find.{get, as_str, as_array, as_object, as_number, as_u64}
+use Rattle.ecr_model.specs.Conditions.{first_of}
 use Rattle.ecr_model.specs.Documents.{document}
 use Rattle.ecr_model.specs.declared.lifecycle.Policy.{Policy}
 use Rattle.ecr_model.specs.declared.lifecycle.PolicyFault.{PolicyFault}
@@ -55,20 +56,46 @@ in_range n = if nat_le 1 n && nat_le n 2147483647 then Some n else None
 abbrev pub whole_at : List ℕ → Data → Option ℕ
 whole_at name d = option_and_then in_range (option_and_then as_u64 (option_and_then as_number (get name d)))
 
--- ---- the selection: causes 8 to 12
+-- ---- conditions
+
+-- the cause, where it holds
+abbrev pub cause_if : ℕ → Bool → Option ℕ
+cause_if cause true = Some cause
+cause_if cause false = None
+
+-- ---- the selection of a rule
+
+-- a rule's selection; null where there is none
+abbrev pub selection_of : Data → Data
+selection_of rule = unwrap_or (get (codes "selection") rule) null
+
+-- `tagStatus` is `tagged`
+abbrev pub selects_tagged : Data → Bool
+selects_tagged selection = is_text_at (codes "tagStatus") (codes "tagged") selection
+
+-- `tagStatus` is `untagged`
+abbrev pub selects_untagged : Data → Bool
+selects_untagged selection = is_text_at (codes "tagStatus") (codes "untagged") selection
+
+-- `tagStatus` is `any`
+abbrev pub selects_any : Data → Bool
+selects_any selection = is_text_at (codes "tagStatus") (codes "any") selection
 
 -- a text of 1 to 128 characters
 abbrev pub is_prefix : Data → Bool
 is_prefix d = option_map_or (λ t. nat_le 1 (characters t) && nat_le (characters t) 128) (as_str d) false
 
+-- each item is one
 abbrev pub are_prefixes : Items → Bool
 are_prefixes no_items = true
 are_prefixes (item d ds) = is_prefix d && are_prefixes ds
 
+-- how many items there are
 abbrev pub number_of : Items → ℕ
 number_of no_items = 0
 number_of (item d ds) = suc (number_of ds)
 
+-- the texts among the items
 abbrev pub texts_of : Items → List (List ℕ)
 texts_of no_items = []
 texts_of (item d ds) = cons_option (as_str d) (texts_of ds)
@@ -77,87 +104,112 @@ texts_of (item d ds) = cons_option (as_str d) (texts_of ds)
 abbrev pub is_prefix_list : Items → Bool
 is_prefix_list ds = nat_le 1 (number_of ds) && nat_le (number_of ds) 100 && are_prefixes ds
 
--- 9: with `tagged` the list is there and is one
-abbrev pub prefixes_of : Option Items → Result Choose ℕ
-prefixes_of None = Err 9
-prefixes_of (Some ds) = if is_prefix_list ds then Ok (Prefixes (texts_of ds)) else Err 9
+-- the list `tagPrefixList`, where it is there and is one
+abbrev pub prefix_list : Data → Option Items
+prefix_list selection = option_and_then as_array (get (codes "tagPrefixList") selection)
 
--- 9: with the other statuses no list is there
-abbrev pub without_list : Data → Choose → Result Choose ℕ
-without_list s choose = if has (codes "tagPrefixList") s then Err 9 else Ok choose
+-- `tagged` has a list of prefixes, and the other statuses have none
+abbrev pub has_its_prefixes : Data → Bool
+has_its_prefixes selection = if selects_tagged selection then option_map_or is_prefix_list (prefix_list selection) false
+    else not (has (codes "tagPrefixList") selection)
 
--- 8: the status is one of these
-abbrev pub choose_of : Data → Result Choose ℕ
-choose_of s = if is_text_at (codes "tagStatus") (codes "tagged") s then prefixes_of (option_and_then as_array (get (codes "tagPrefixList") s))
-    else (if is_text_at (codes "tagStatus") (codes "untagged") s then without_list s Untagged
-    else (if is_text_at (codes "tagStatus") (codes "any") s then without_list s Any else Err 8))
+-- `countType` is `sinceImagePushed`
+abbrev pub counts_days : Data → Bool
+counts_days selection = is_text_at (codes "countType") (codes "sinceImagePushed") selection
 
--- 12: the number is there
-abbrev pub older_than : Option ℕ → Result Count ℕ
-older_than None = Err 12
-older_than (Some n) = Ok (OlderDays n)
+-- `countType` is `imageCountMoreThan`
+abbrev pub counts_images : Data → Bool
+counts_images selection = is_text_at (codes "countType") (codes "imageCountMoreThan") selection
 
-abbrev pub more_than : Option ℕ → Result Count ℕ
-more_than None = Err 12
-more_than (Some n) = Ok (MoreThan n)
+-- `sinceImagePushed` has the unit `days`, and the other type has none
+abbrev pub has_its_unit : Data → Bool
+has_its_unit selection = if counts_days selection then is_text_at (codes "countUnit") (codes "days") selection
+    else not (has (codes "countUnit") selection)
 
--- 10: the type is one of these; 11: the unit is `days` with an age, and isn't there with a count
-abbrev pub count_of : Data → Result Count ℕ
-count_of s = if is_text_at (codes "countType") (codes "sinceImagePushed") s
-    then (if is_text_at (codes "countUnit") (codes "days") s then older_than (whole_at (codes "countNumber") s) else Err 11)
-    else (if is_text_at (codes "countType") (codes "imageCountMoreThan") s
-    then (if has (codes "countUnit") s then Err 11 else more_than (whole_at (codes "countNumber") s))
-    else Err 10)
+-- the number that is counted up to
+abbrev pub count_number : Data → Option ℕ
+count_number selection = whole_at (codes "countNumber") selection
 
--- ---- a rule: causes 4 to 13
+-- the names of a selection's members
+abbrev pub selection_members : List (List ℕ)
+selection_members = codes "tagStatus" ∷ codes "tagPrefixList" ∷ codes "countType" ∷ codes "countUnit" ∷ codes "countNumber" ∷ []
 
--- 13: the action is an object with the one member `type`, which is `expire`
+-- the first cause that holds of a selection
+unfoldable pub selection_fault : Data → Option ℕ
+selection_fault selection = first_of (
+    cause_if 7 (not (has_only selection_members selection))
+    ∷ cause_if 8 (not (selects_tagged selection) && not (selects_untagged selection) && not (selects_any selection))
+    ∷ cause_if 9 (not (has_its_prefixes selection))
+    ∷ cause_if 10 (not (counts_days selection) && not (counts_images selection))
+    ∷ cause_if 11 (not (has_its_unit selection))
+    ∷ cause_if 12 (not (is_some (count_number selection)))
+    ∷ [])
+
+-- the images that a selection chooses, where nothing is wrong with it
+abbrev pub choose_of : Data → Choose
+choose_of selection = if selects_tagged selection then Prefixes (texts_of (unwrap_or (prefix_list selection) no_items))
+    else (if selects_untagged selection then Untagged else Any)
+
+-- how it counts them, where nothing is wrong with it
+abbrev pub count_of : Data → Count
+count_of selection = if counts_days selection then OlderDays (unwrap_or (count_number selection) 0)
+    else MoreThan (unwrap_or (count_number selection) 0)
+
+-- ---- a rule
+
+-- the names of a rule's members
+abbrev pub rule_members : List (List ℕ)
+rule_members = codes "rulePriority" ∷ codes "description" ∷ codes "selection" ∷ codes "action" ∷ []
+
+-- the rule's number
+abbrev pub priority_of : Data → Option ℕ
+priority_of rule = whole_at (codes "rulePriority") rule
+
+-- a description is a text
+abbrev pub is_described : Data → Bool
+is_described rule = not (has (codes "description") rule) || is_some (text_at (codes "description") rule)
+
+-- an object with the one member `type`, which is `expire`
 abbrev pub is_action : Option Data → Bool
 is_action None = false
 is_action (Some a) = has_only (codes "type" ∷ []) a && is_text_at (codes "type") (codes "expire") a
 
-abbrev pub with_count : Data → ℕ → Choose → Result Count ℕ → Result Rule ℕ
-with_count d priority choose (Err cause) = Err cause
-with_count d priority choose (Ok count) = if is_action (get (codes "action") d)
-    then Ok (record { priority = priority; choose = choose; count = count }) else Err 13
+-- the first cause that holds of a rule by itself
+unfoldable pub rule_fault : Data → Option ℕ
+rule_fault rule = first_of (
+    cause_if 4 (not (has_only rule_members rule))
+    ∷ cause_if 5 (not (is_some (priority_of rule)))
+    ∷ cause_if 6 (not (is_described rule))
+    ∷ selection_fault (selection_of rule)
+    ∷ cause_if 13 (not (is_action (get (codes "action") rule)))
+    ∷ [])
 
-abbrev pub with_choose : Data → ℕ → Data → Result Choose ℕ → Result Rule ℕ
-with_choose d priority s (Err cause) = Err cause
-with_choose d priority s (Ok choose) = with_count d priority choose (count_of s)
-
--- 7: the selection is an object with members of these names alone
-abbrev pub with_selection : Data → ℕ → Option Data → Result Rule ℕ
-with_selection d priority None = Err 7
-with_selection d priority (Some s) = if has_only (codes "tagStatus" ∷ codes "tagPrefixList" ∷ codes "countType" ∷ codes "countUnit" ∷ codes "countNumber" ∷ []) s
-    then with_choose d priority s (choose_of s) else Err 7
-
--- 6: a description is a text
-abbrev pub is_described : Data → Bool
-is_described d = not (has (codes "description") d) || is_some (text_at (codes "description") d)
-
--- 5: the priority is there
-abbrev pub with_priority : Data → Option ℕ → Result Rule ℕ
-with_priority d None = Err 5
-with_priority d (Some priority) = if is_described d then with_selection d priority (get (codes "selection") d) else Err 6
-
--- 4: the rule is an object with members of these names alone
-abbrev pub rule_of : Data → Result Rule ℕ
-rule_of d = if has_only (codes "rulePriority" ∷ codes "description" ∷ codes "selection" ∷ codes "action" ∷ []) d
-    then with_priority d (whole_at (codes "rulePriority") d) else Err 4
+-- the rule, where nothing is wrong with it
+abbrev pub rule_of : Data → Rule
+rule_of rule = record {
+  priority = unwrap_or (priority_of rule) 0;
+  choose = choose_of (selection_of rule);
+  count = count_of (selection_of rule);
+}
 
 -- ---- the rules in the order of the list
 
-abbrev pub and_rules : ℕ → Result Rule ℕ → Result (List Rule) PolicyFault → Result (List Rule) PolicyFault
-and_rules n (Err cause) rest = Err (record { rule = n; cause = cause })
-and_rules n (Ok rule) (Err fault) = Err fault
-and_rules n (Ok rule) (Ok rules) = Ok (rule ∷ rules)
+-- the cause with its rule's number, or else the later fault
+abbrev pub or_later : ℕ → Option ℕ → Option PolicyFault → Option PolicyFault
+or_later n None later = later
+or_later n (Some cause) later = Some (record { rule = n; cause = cause })
 
--- the rules, of which the first has that number
-abbrev pub rules_from : ℕ → Items → Result (List Rule) PolicyFault
-rules_from n no_items = Ok []
-rules_from n (item d ds) = and_rules n (rule_of d) (rules_from (suc n) ds)
+-- the fault of the first rule that has one by itself; the first of these rules has that number
+abbrev pub rules_fault : ℕ → Items → Option PolicyFault
+rules_fault n no_items = None
+rules_fault n (item d ds) = or_later n (rule_fault d) (rules_fault (suc n) ds)
 
--- ---- the rules together: causes 14 to 17
+-- the rules, where nothing is wrong with one
+abbrev pub rules_of : Items → List Rule
+rules_of no_items = []
+rules_of (item d ds) = rule_of d ∷ rules_of ds
+
+-- ---- the rules together
 
 abbrev pub is_any : Choose → Bool
 is_any Untagged = false
@@ -180,18 +232,16 @@ have_same_texts (Prefixes xs) Untagged = false
 have_same_texts (Prefixes xs) Any = false
 have_same_texts (Prefixes xs) (Prefixes ys) = is_subset xs ys && is_subset ys xs
 
--- the first of these causes that the rule has beside the earlier ones and all
-abbrev pub clash : List Rule → List Rule → Rule → Option ℕ
-clash all earlier r = if list_any (λ e. e.priority == r.priority) earlier then Some 14
-    else (if is_any r.choose && list_any (λ o. nat_lt r.priority o.priority) all then Some 15
-    else (if is_untagged r.choose && list_any (λ e. is_untagged e.choose) earlier then Some 16
-    else (if list_any (λ e. have_same_texts r.choose e.choose) earlier then Some 17 else None)))
+-- the first cause that holds of a rule beside the earlier ones and all
+unfoldable pub clash : List Rule → List Rule → Rule → Option ℕ
+clash all earlier r = first_of (
+    cause_if 14 (list_any (λ e. e.priority == r.priority) earlier)
+    ∷ cause_if 15 (is_any r.choose && list_any (λ o. nat_lt r.priority o.priority) all)
+    ∷ cause_if 16 (is_untagged r.choose && list_any (λ e. is_untagged e.choose) earlier)
+    ∷ cause_if 17 (list_any (λ e. have_same_texts r.choose e.choose) earlier)
+    ∷ [])
 
-abbrev pub or_later : ℕ → Option ℕ → Option PolicyFault → Option PolicyFault
-or_later n None later = later
-or_later n (Some cause) later = Some (record { rule = n; cause = cause })
-
--- the first rule that doesn't go with the others
+-- the fault of the first rule that doesn't go with the others
 abbrev pub clashes_from : ℕ → List Rule → List Rule → List Rule → Option PolicyFault
 clashes_from n all earlier [] = None
 clashes_from n all earlier (r ∷ rs) = or_later n (clash all earlier r) (clashes_from (suc n) all (earlier ++ r ∷ []) rs)
@@ -208,34 +258,50 @@ abbrev pub by_number : List Rule → List Rule
 by_number [] = []
 by_number (r ∷ rs) = insert_rule r (by_number rs)
 
-abbrev pub ordered : List ℕ → List Rule → Option PolicyFault → Result Policy PolicyFault
-ordered text rules (Some fault) = Err fault
-ordered text rules None = Ok (record { text = text; rules = by_number rules })
-
-abbrev pub together : List ℕ → Result (List Rule) PolicyFault → Result Policy PolicyFault
-together text (Err fault) = Err fault
-together text (Ok rules) = ordered text rules (clashes_from 1 rules [] rules)
-
-abbrev pub of_text : ℕ → PolicyFault
-of_text cause = record { rule = 0; cause = cause }
-
--- 3: the list has 1 to 50 rules
-abbrev pub listed : List ℕ → Items → Result Policy PolicyFault
-listed text ds = if nat_le 1 (number_of ds) && nat_le (number_of ds) 50 then together text (rules_from 1 ds) else Err (of_text 3)
-
--- 2: the text is an object with the one member `rules`, a list
+-- the list of rules of an object with the one member `rules`
 abbrev pub rules_in : Option Data → Option Items
 rules_in None = None
 rules_in (Some d) = if has_only (codes "rules" ∷ []) d then option_and_then as_array (get (codes "rules") d) else None
 
-abbrev pub read_rules : List ℕ → Option Items → Result Policy PolicyFault
-read_rules text None = Err (of_text 2)
-read_rules text (Some ds) = listed text ds
-
--- 1: the text has 100 to 30,720 characters
+-- 100 to 30,720 characters
 abbrev pub has_length : List ℕ → Bool
 has_length text = nat_le 100 (characters text) && nat_le (characters text) 30720
 
--- the policy of a text, or the first rule that is refused and why
+-- 1 to 50 rules
+abbrev pub has_number : Items → Bool
+has_number ds = nat_le 1 (number_of ds) && nat_le (number_of ds) 50
+
+-- the text's cause, where it holds
+abbrev pub text_cause_if : ℕ → Bool → Option PolicyFault
+text_cause_if cause holds = or_later 0 (cause_if cause holds) None
+
+-- the first fault of a list of rules
+unfoldable pub list_fault : Option Items → Option PolicyFault
+list_fault list =
+    let ds = unwrap_or list no_items in
+    first_of (
+    text_cause_if 2 (not (is_some list))
+    ∷ text_cause_if 3 (not (has_number ds))
+    ∷ rules_fault 1 ds
+    ∷ clashes_from 1 (rules_of ds) [] (rules_of ds)
+    ∷ [])
+
+-- the first fault of a text
+abbrev pub policy_fault : List ℕ → Option PolicyFault
+policy_fault text = first_of (
+    text_cause_if 1 (not (has_length text))
+    ∷ list_fault (rules_in (document text))
+    ∷ [])
+
+-- the policy of the list, where nothing is wrong
+abbrev pub policy_of : List ℕ → Option Items → Policy
+policy_of text list = record { text = text; rules = by_number (rules_of (unwrap_or list no_items)) }
+
+-- the policy, where nothing is wrong
+abbrev pub answer : Option PolicyFault → Policy → Result Policy PolicyFault
+answer (Some fault) policy = Err fault
+answer None policy = Ok policy
+
+-- the policy of a text, or its first fault: a rule's number and the cause
 unfoldable pub policy : List ℕ → Result Policy PolicyFault
-policy text = if has_length text then read_rules text (rules_in (document text)) else Err (of_text 1)
+policy text = answer (policy_fault text) (policy_of text (rules_in (document text)))

@@ -7,7 +7,7 @@ use crate::compared::Compared;
 use ecr_model::{Choose, Mem, PolicyFault, Rule};
 use std::alloc::Global;
 
-/// The first rule that doesn't go with the others.
+/// The fault of the first rule that doesn't go with the others.
 pub(crate) fn first_clash(alloc: Global, rules: &[Rule]) -> Result<Option<PolicyFault>, Mem>
     requires { length rules.now ≤ 50 }
     ensures { IfOk result (λ r. r ≡ clashes_from 1 rules.now [] rules.now) }
@@ -27,7 +27,7 @@ fn with_prefixes(alloc: Global, rules: &[Rule]) -> Result<Vec<Compared<'_>>, Mem
     Ok(all)
 }
 
-/// The first rule that doesn't go with the others.
+/// The fault of the first rule that doesn't go with the others.
 fn first_among(rules: &[Compared<'_>]) -> Option<PolicyFault>
     requires { length rules.now ≤ 50 }
     ensures { result ≡ clashes_from 1 rules.now [] rules.now }
@@ -43,22 +43,25 @@ fn first_among(rules: &[Compared<'_>]) -> Option<PolicyFault>
     None
 }
 
-/// The first cause that the rule has beside the earlier ones and all.
+/// The first cause that holds of the rule beside the earlier ones and all.
+#[tactic(auto, unfolding(ecr_model::specs::Policies::clash))]
 fn clash(all: &[Compared<'_>], earlier: &[Compared<'_>], compared: &Compared<'_>) -> Option<u8>
     ensures { result ≡ clash all.now earlier.now compared.now }
 {
     let rule = compared.rule();
     if has_number(earlier, rule.priority) {
-        Some(14)
-    } else if is_any(&rule.choose) && has_greater(all, rule.priority) {
-        Some(15)
-    } else if is_untagged(&rule.choose) && has_untagged(earlier) {
-        Some(16)
-    } else if has_same_texts(earlier, compared) {
-        Some(17)
-    } else {
-        None
+        return Some(14);
     }
+    if is_any(&rule.choose) && has_greater(all, rule.priority) {
+        return Some(15);
+    }
+    if is_untagged(&rule.choose) && has_untagged(earlier) {
+        return Some(16);
+    }
+    if has_same_texts(earlier, compared) {
+        return Some(17);
+    }
+    None
 }
 
 /// Whether a rule has the number.

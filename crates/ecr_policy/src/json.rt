@@ -1,5 +1,6 @@
 // Members of JSON values.
-ghost use Rattle.std.specs.Prelude.{◌≡◌, map, option_map, option_and_then, bytes_eq};
+ghost use Rattle.std.specs.Prelude.{◌≡◌, map, option_map, option_and_then, bytes_eq, unwrap_or};
+ghost use Rattle.serde_json.specs.Data.{null};
 ghost use Rattle.std.specs.List.{list_any};
 ghost use Rattle.serde_json.specs.View.{view, items_view, members_view};
 ghost use Rattle.serde_json.specs.Find.{get, as_array, as_number, as_u64};
@@ -69,6 +70,26 @@ pub(crate) fn is_text_at(name: &str, text: &str, value: &Value) -> bool
     match text_at(name, value) {
         Some(found) => found == text,
         None => false,
+    }
+}
+
+/// The list of a member, where it is there and is one.
+pub(crate) fn list_at<'a>(name: &str, value: &'a Value) -> Option<&'a Vec<Value>>
+    ensures { option_map (λ v. items_view v.now.items) result ≡ option_and_then as_array (get name.now (view value.now)) }
+{
+    match value.get(name) {
+        Some(member) => member.as_array(),
+        None => None,
+    }
+}
+
+/// The member, or null where there is none. Nothing is said of what is left.
+pub(crate) fn take(name: &str, value: &mut Value) -> Value
+    ensures { view result ≡ unwrap_or (get name.now (view value.old)) null }
+{
+    match value.get_mut(name) {
+        Some(member) => member.take(),
+        None => Value::Null,
     }
 }
 

@@ -1,16 +1,16 @@
 // A policy's text, read whole.
-ghost use Rattle.std.specs.Prelude.{◌≡◌, ◌≤◌, ℕ, Ok, Err, IfOk, Some, length, option_map};
+ghost use Rattle.std.specs.Prelude.{◌≡◌, ◌≤◌, [], ℕ, Ok, Err, IfOk, Some, length, option_map};
 ghost use Rattle.serde_json.specs.View.{view, items_view};
 ghost use Rattle.serde_json.specs.Read.{read};
 ghost use Rattle.ecr_model.specs.Documents.{document};
-ghost use Rattle.ecr_model.specs.Policies.{policy, has_length, rules_in, read_rules, listed, together, of_text};
+ghost use Rattle.ecr_model.specs.Policies.{answer, by_number, clashes_from, has_length, list_fault, policy, policy_of, rules_in};
 ghost use Rattle.ecr_policy.specs.declared.refusal.PolicyRefusal.TheVariants.{Bad};
 
 use crate::PolicyRefusal;
 use crate::clashes::first_clash;
 use crate::json::{characters, has_only, take_list};
 use crate::order::by_number;
-use crate::rules::rules_of;
+use crate::rules::{rules_fault, rules_of};
 use ecr_model::{Listed, Mem, Policy, PolicyFault, Rule, Text};
 use serde_json::Value;
 use std::alloc::Global;
@@ -32,8 +32,8 @@ pub fn read(alloc: Global, text: &str) -> Result<Policy, PolicyRefusal>
     }
 }
 
-/// The policy of the text, or the first rule that is refused and why.
-#[tactic(auto, unfolding(ecr_model::specs::Policies::policy))]
+/// The policy of the text, or its first fault.
+#[tactic(auto, using(crate::proofs::ReadingLemmas::answers), unfolding(ecr_model::specs::Policies::policy))]
 fn read_policy(alloc: Global, text: &str) -> Result<Result<Policy, PolicyFault>, Mem>
     ensures { IfOk result (λ r. r ≡ policy text.now) }
 {
@@ -91,45 +91,45 @@ fn rules_at(mut value: Value) -> Option<Vec<Value>>
     }
 }
 
-/// The policy of those rules, or the first cause from 2 on.
+/// The policy of the list of rules, or its first fault.
+#[tactic(auto, unfolding(ecr_model::specs::Policies::list_fault))]
 fn read_rules(
     alloc: Global,
     text: &str,
-    rules: Option<Vec<Value>>,
+    list: Option<Vec<Value>>,
 ) -> Result<Result<Policy, PolicyFault>, Mem>
-    ensures { IfOk result (λ r. r ≡ read_rules text.now (option_map (λ v. items_view v.items) rules)) }
+    ensures { IfOk result (λ r. r ≡ answer (list_fault (option_map (λ v. items_view v.items) list)) (policy_of text.now (option_map (λ v. items_view v.items) list))) }
 {
-    match rules {
-        Some(rules) => listed(alloc, text, rules),
+    match list {
+        Some(items) => listed(alloc, text, items),
         None => Ok(Err(of_text(2))),
     }
 }
 
-/// The policy of the items, or the first cause from 3 on.
-#[tactic(auto, using(crate::proofs::JsonLemmas::items))]
+/// The policy of the items, or the first fault from cause 3 on.
+#[tactic(auto, using(crate::proofs::JsonLemmas::items, crate::proofs::ReadingLemmas::answers), unfolding(ecr_model::specs::Policies::list_fault))]
 fn listed(alloc: Global, text: &str, items: Vec<Value>) -> Result<Result<Policy, PolicyFault>, Mem>
-    ensures { IfOk result (λ r. r ≡ listed text.now (items_view items.items)) }
+    ensures { IfOk result (λ r. r ≡ answer (list_fault (Some (items_view items.items))) (policy_of text.now (Some (items_view items.items)))) }
 {
     if items.is_empty() || items.len() > 50 {
         return Ok(Err(of_text(3)));
+    }
+    if let Some(fault) = rules_fault(items.as_slice()) {
+        return Ok(Err(fault));
     }
     let rules = rules_of(alloc, items)?;
     together(alloc, text, rules)
 }
 
-/// The policy of the rules, or the first cause from 14 on.
+/// The policy of the rules, or the fault of the first that doesn't go with the others.
 fn together(
     alloc: Global,
     text: &str,
-    rules: Result<Listed<Rule>, PolicyFault>,
+    rules: Listed<Rule>,
 ) -> Result<Result<Policy, PolicyFault>, Mem>
-    requires { IfOk rules (λ rs. length rs ≤ 50) }
-    ensures { IfOk result (λ r. r ≡ together text.now rules) }
+    requires { length rules ≤ 50 }
+    ensures { IfOk result (λ r. r ≡ answer (clashes_from 1 rules [] rules) (record { text = text.now; rules = by_number rules })) }
 {
-    let rules = match rules {
-        Ok(rules) => rules,
-        Err(fault) => return Ok(Err(fault)),
-    };
     if let Some(fault) = first_clash(alloc, rules.as_slice())? {
         return Ok(Err(fault));
     }
@@ -140,7 +140,7 @@ fn together(
 
 /// A cause of the text's.
 fn of_text(cause: u8) -> PolicyFault
-    ensures { result ≡ of_text cause }
+    ensures { result ≡ record { rule = 0; cause = cause } }
 {
     PolicyFault { rule: 0, cause }
 }

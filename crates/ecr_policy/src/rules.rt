@@ -1,169 +1,113 @@
 // The rules of a policy, each by itself: causes 4 to 13.
-ghost use Rattle.std.specs.Prelude.{◌≡◌, ◌≤◌, ◌∷◌, [], Some, IfOk, codes, length, option_map};
-ghost use Rattle.serde_json.specs.Data.{Data};
-ghost use Rattle.serde_json.specs.Find.{get};
+ghost use Rattle.std.specs.Prelude.{◌≡◌, ◌≤◌, IfOk, length, option_map, unwrap_or};
+ghost use Rattle.serde_json.specs.Data.{null};
 ghost use Rattle.serde_json.specs.View.{view, items_view};
-ghost use Rattle.ecr_model.specs.Policies.{has_only, is_action, is_described, with_count, with_choose, with_selection, with_priority, rule_of, rules_from, count_of};
-ghost use Rattle.ecr_policy.specs.Shown.{HasAction};
+ghost use Rattle.ecr_model.specs.Policies.{has_only, is_action, is_described, priority_of, rule_fault, rule_members, rule_of, rules_fault, rules_of, selection_fault};
 
-use crate::json::{has, has_only, is_text_at, text_at, whole_at};
-use crate::selection::{choose_of, count_of};
-use ecr_model::{Choose, Count, Listed, Mem, PolicyFault, Rule};
+use crate::json::{has, has_only, is_text_at, take, text_at, whole_at};
+use crate::selection::{choose_of, count_of, selection_fault};
+use ecr_model::{Listed, Mem, PolicyFault, Rule};
 use serde_json::Value;
 use std::alloc::Global;
 
-/// The rules of the list, or the first that is refused.
-pub(crate) fn rules_of(
-    alloc: Global,
-    items: Vec<Value>,
-) -> Result<Result<Listed<Rule>, PolicyFault>, Mem>
-    requires { length items.items ≤ 50 }
-    ensures exact { IfOk result (λ r. r ≡ rules_from 1 (items_view items.items)) }
-    ensures few { IfOk result (λ r. IfOk r (λ rules. length rules ≤ 50)) }
+/// The fault of the first rule that has one by itself.
+pub(crate) fn rules_fault(items: &[Value]) -> Option<PolicyFault>
+    requires { length items.now ≤ 50 }
+    ensures { result ≡ rules_fault 1 (items_view items.now) }
 {
-    let mut rules = Vec::new(alloc);
-    let mut number: u32 = 1;
-    for item in items {
-        match rule_of(alloc, item)? {
-            Ok(rule) => rules.push(rule)?,
-            Err(cause) => {
-                return Ok(Err(PolicyFault {
-                    rule: number,
-                    cause,
-                }));
-            }
+    for at in 0..items.len() {
+        if let Some(cause) = rule_fault(&items[at]) {
+            return Some(PolicyFault {
+                rule: at as u32 + 1,
+                cause,
+            });
         }
-        number += 1;
     }
-    Ok(Ok(Listed::from_vec(rules)))
+    None
 }
 
-/// The rule that the value is, or the first of the causes 4 to 13.
-fn rule_of(alloc: Global, mut value: Value) -> Result<Result<Rule, u8>, Mem>
-    ensures { IfOk result (λ r. r ≡ rule_of (view value)) }
+/// The rules of the items, where none has a fault.
+pub(crate) fn rules_of(alloc: Global, items: Vec<Value>) -> Result<Listed<Rule>, Mem>
+    ensures { IfOk result (λ rules. rules ≡ rules_of (items_view items.items)) }
 {
-    if !is_rule(&value) {
-        return Ok(Err(4));
+    let mut rules = Vec::with_capacity(alloc, items.len())?;
+    for item in items {
+        rules.push(rule_of(alloc, item)?)?;
     }
-    let priority = whole_at("rulePriority", &value);
-    with_priority(alloc, &mut value, priority)
+    Ok(Listed::from_vec(rules))
 }
 
-/// Whether the value is an object with the members of a rule alone.
-fn is_rule(value: &Value) -> bool
-    ensures { result ≡ has_only (codes "rulePriority" ∷ codes "description" ∷ codes "selection" ∷ codes "action" ∷ []) (view value.now) }
+/// The first cause that holds of the rule by itself.
+#[tactic(auto, unfolding(ecr_model::specs::Policies::rule_fault))]
+fn rule_fault(rule: &Value) -> Option<u8>
+    ensures { result ≡ rule_fault (view rule.now) }
 {
-    has_only(
-        &["rulePriority", "description", "selection", "action"],
-        value,
-    )
-}
-
-/// The rule of that priority, or the first of the causes 5 to 13.
-fn with_priority(
-    alloc: Global,
-    value: &mut Value,
-    priority: Option<u32>,
-) -> Result<Result<Rule, u8>, Mem>
-    ensures { IfOk result (λ r. r ≡ with_priority (view value.old) priority) }
-{
-    let Some(priority) = priority else {
-        return Ok(Err(5))
-    };
-    if !is_described(value) {
-        return Ok(Err(6));
+    if !is_rule(rule) {
+        return Some(4);
     }
-    with_selection(alloc, value, priority)
+    if priority_of(rule).is_none() {
+        return Some(5);
+    }
+    if !is_described(rule) {
+        return Some(6);
+    }
+    if let Some(cause) = fault_of_selection(rule.get("selection")) {
+        return Some(cause);
+    }
+    if !is_action(rule.get("action")) {
+        return Some(13);
+    }
+    None
 }
 
-/// Whether a description is a text.
-fn is_described(value: &Value) -> bool
-    ensures { result ≡ is_described (view value.now) }
+/// The first cause that holds of a rule's selection; one that isn't there is null.
+#[tactic(auto, unfolding(ecr_model::specs::Policies::selection_fault))]
+fn fault_of_selection(selection: Option<&Value>) -> Option<u8>
+    ensures { result ≡ selection_fault (unwrap_or (option_map (λ s. view s.now) selection.entry) null) }
 {
-    !has("description", value) || text_at("description", value).is_some()
-}
-
-/// The rule of the selection that the value has, or the first of the causes 7 to 13.
-fn with_selection(alloc: Global, value: &mut Value, priority: u32) -> Result<Result<Rule, u8>, Mem>
-    ensures { IfOk result (λ r. r ≡ with_selection (view value.old) priority (get (codes "selection") (view value.old))) }
-{
-    // Nothing is known of the value once its selection was taken apart.
-    let expires = is_action(value.get("action"));
-    match value.get_mut("selection") {
-        Some(selection) => selected(alloc, priority, selection, expires),
-        None => Ok(Err(7)),
+    match selection {
+        Some(selection) => selection_fault(selection),
+        None => Some(7),
     }
 }
 
-/// The rule of that selection, or the first of the causes 7 to 13. `expires` is whether the action is one.
-fn selected(
-    alloc: Global,
-    priority: u32,
-    selection: &mut Value,
-    expires: bool,
-) -> Result<Result<Rule, u8>, Mem>
-    ensures { (d : Data) → HasAction expires d → IfOk result (λ r. r ≡ with_selection d priority (Some (view selection.old))) }
+/// The rule that the value is, where it has no fault.
+fn rule_of(alloc: Global, mut value: Value) -> Result<Rule, Mem>
+    ensures { IfOk result (λ rule. rule ≡ rule_of (view value)) }
 {
-    if !is_selection(selection) {
-        return Ok(Err(7));
-    }
-    let count = count_of(selection);
-    let choose = choose_of(alloc, selection)?;
-    Ok(with_choose(priority, choose, count, expires))
-}
-
-/// Whether the value is an object with the members of a selection alone.
-fn is_selection(value: &Value) -> bool
-    ensures { result ≡ has_only (codes "tagStatus" ∷ codes "tagPrefixList" ∷ codes "countType" ∷ codes "countUnit" ∷ codes "countNumber" ∷ []) (view value.now) }
-{
-    has_only(
-        &[
-            "tagStatus",
-            "tagPrefixList",
-            "countType",
-            "countUnit",
-            "countNumber",
-        ],
-        value,
-    )
-}
-
-/// The rule of that choice, or the first of the causes 8 to 13.
-fn with_choose(
-    priority: u32,
-    choose: Result<Choose, u8>,
-    count: Result<Count, u8>,
-    expires: bool,
-) -> Result<Rule, u8>
-    ensures { (d s : Data) → HasAction expires d → count ≡ count_of s → result ≡ with_choose d priority s choose }
-{
-    match choose {
-        Ok(choose) => with_count(priority, choose, count, expires),
-        Err(cause) => Err(cause),
-    }
-}
-
-/// The rule of that count, or the first of the causes 10 to 13.
-fn with_count(
-    priority: u32,
-    choose: Choose,
-    count: Result<Count, u8>,
-    expires: bool,
-) -> Result<Rule, u8>
-    ensures { (d : Data) → HasAction expires d → result ≡ with_count d priority choose count }
-{
-    let count = match count {
-        Ok(count) => count,
-        Err(cause) => return Err(cause),
-    };
-    if !expires {
-        return Err(13);
-    }
+    let priority = priority_of(&value).unwrap_or(0);
+    let mut selection = take("selection", &mut value);
+    let count = count_of(&selection);
+    let choose = choose_of(alloc, &mut selection)?;
     Ok(Rule {
         priority,
         choose,
         count,
     })
+}
+
+/// Whether the value is an object with the members of a rule alone.
+fn is_rule(rule: &Value) -> bool
+    ensures { result ≡ has_only rule_members (view rule.now) }
+{
+    has_only(
+        &["rulePriority", "description", "selection", "action"],
+        rule,
+    )
+}
+
+/// The rule's number.
+fn priority_of(rule: &Value) -> Option<u32>
+    ensures { result ≡ priority_of (view rule.now) }
+{
+    whole_at("rulePriority", rule)
+}
+
+/// Whether a description is a text.
+fn is_described(rule: &Value) -> bool
+    ensures { result ≡ is_described (view rule.now) }
+{
+    !has("description", rule) || text_at("description", rule).is_some()
 }
 
 /// Whether the action is an object with the one member `type`, which is `expire`.
