@@ -88,7 +88,7 @@ pub struct Repository {
     pub present: Option<Presence>,
     /// By birth.
     pub images: Listed<Row>,
-    /// Each digest once, in the order in which they were stored.
+    /// By rising digest, each once.
     pub layers: Listed<Layer>,
     /// By number.
     pub uploads: Listed<UploadState>,
