@@ -5,10 +5,10 @@ use Rattle.std.specs.Str.{is_utf8, chars}
 use Rattle.std.specs.Fmt.{digits}
 use Rattle.hex.specs.Hex.{encode_with}
 use Rattle.serde_json.proofs.OnLiterals.{serde_json_on_literals}
-use Rattle.ecr_model.specs.Actions.{reading, action_of, members_of, typed_reading, asked_by}
+use Rattle.ecr_model.specs.Actions.{reading, action_of, members_of, typed_reading, values_reading, made_by, made_in}
 use Rattle.ecr_model.specs.ApiExample.{BodiesAreRead, RepliesAreWritten}
 use Rattle.ecr_model.specs.Documents.{document}
-use Rattle.ecr_model.specs.Members.{are_typed, first_bad, place_of, is_decimal, digits_value, site_of}
+use Rattle.ecr_model.specs.Members.{typed_members, first_bad, place_of, is_decimal, digits_value, site_of}
 use Rattle.ecr_model.specs.Names.{is_name}
 use Rattle.ecr_model.specs.Refusals.{parameter_text, type_text, message_text, refusal_data, refusal_body}
 use Rattle.ecr_model.specs.Rendered.{json, reply_data, repository_data}
@@ -17,7 +17,7 @@ use Rattle.ecr_model.specs.Sites.{utf8_or_empty, arn_of, uri_of}
 use Rattle.ecr_model.specs.Uploads.{upload_id}
 
 pub bodies_are_read : BodiesAreRead
-unfolding reading action_of members_of typed_reading asked_by document are_typed first_bad place_of is_decimal digits_value site_of is_name parameter_text utf8_valid_len is_utf8 chars serde_json_on_literals
+unfolding reading action_of members_of typed_reading values_reading made_by made_in document typed_members first_bad place_of is_decimal digits_value site_of is_name parameter_text utf8_valid_len is_utf8 chars serde_json_on_literals
 bodies_are_read = record {
   created = refl;
   immutable = refl;

@@ -14,11 +14,11 @@ use Rattle.ecr_model.specs.declared.http.Framing.TheVariants.{Sized}
 use Rattle.ecr_model.specs.Stream.{complete, IsBody, whole, short, open_, head_part, IsFront, Point, Stops}
 use Rattle.ecr_model.specs.Sessions.{outcome_of, written, left_by, IsServed}
 use Rattle.ecr_model.specs.Hosts.{site_for, named_site, without_port}
-use Rattle.ecr_model.specs.Actions.{asks, cell, reading, action_of, members_of, typed_reading, asked_by}
+use Rattle.ecr_model.specs.Actions.{asks, cell, reading, action_of, members_of, typed_reading, values_reading, made_by, made_in}
 use Rattle.ecr_model.specs.Directories.{after_line, first_directory, registration}
 use Rattle.ecr_model.specs.Journals.{replay}
 use Rattle.ecr_model.specs.Documents.{document}
-use Rattle.ecr_model.specs.Members.{are_typed, first_bad}
+use Rattle.ecr_model.specs.Members.{typed_members, first_bad}
 use Rattle.ecr_model.specs.Posed.{Posed, api, posed_of, is_json_call, posed_script, posed_bytes}
 use Rattle.ecr_model.specs.Refusals.{parameter_text}
 use Rattle.ecr_model.specs.Rendered.{json, reply_data, repository_data}
@@ -43,7 +43,7 @@ abbrev creation : Posed
 creation = api (asks (cell first_key (Create Mutable) None))
 
 posed : posed_of example_sites first_request ≡ creation
-unfolding posed_of is_json_call site_for named_site without_port reading action_of members_of typed_reading asked_by document are_typed first_bad parameter_text is_name utf8_valid_len is_utf8 chars serde_json_on_literals
+unfolding posed_of is_json_call site_for named_site without_port reading action_of members_of typed_reading values_reading made_by made_in document typed_members first_bad parameter_text is_name utf8_valid_len is_utf8 chars serde_json_on_literals
 posed = refl
 
 abbrev ran : Run Decided

@@ -3,7 +3,6 @@
 use Rattle.std.specs.Prelude.{ℕ, Bool, true, false, List, [], ◌∷◌, ◌++◌, map, Option, None, Some, if◌then◌else◌, codes, bytes_eq, unwrap_or, option_map, option_and_then, find}
 use Rattle.std.specs.Option.{option_map_or}
 use Rattle.serde_json.specs.Data.{Data}
-use Rattle.serde_json.specs.Find.{as_bool}
 use Rattle.ecr_model.specs.declared.action.Action.{Action}
 use Rattle.ecr_model.specs.declared.action.Action.TheVariants.{CreateRepository, DeleteRepository, DescribeRepositories, PutImageTagMutability}
 use Rattle.ecr_model.specs.declared.action.Domain.{Domain}
@@ -21,10 +20,9 @@ use Rattle.ecr_model.specs.declared.refusal.Parameter.TheVariants.{RegistryId, R
 use Rattle.ecr_model.specs.declared.refusal.Refusal.{Refusal}
 use Rattle.ecr_model.specs.declared.refusal.Refusal.TheVariants.{InvalidParameter, UnknownOperation, Serialization}
 use Rattle.ecr_model.specs.declared.repository.Mutability.{Mutability}
-use Rattle.ecr_model.specs.declared.repository.Mutability.TheVariants.{Mutable, Immutable}
+use Rattle.ecr_model.specs.declared.repository.Mutability.TheVariants.{Mutable}
 use Rattle.ecr_model.specs.Documents.{document}
-use Rattle.ecr_model.specs.Members.{value_of, text_in, number_in, items_in, place_of, site_of, are_typed, first_bad}
-use Rattle.ecr_model.specs.Policies.{texts_of}
+use Rattle.ecr_model.specs.Members.{Valued, value_at, text_in, whole_in, truth_in, texts_in, place_of, rows_of, mutability_of, site_of, typed_members, first_bad}
 
 -- what stands before an action's name in X-Amz-Target
 abbrev pub service : List ℕ
@@ -85,55 +83,71 @@ pub data Reading : Type 0 where
   asks : Asked → Reading
   refuses : Refusal → Reading
 
--- the text of a member; of an absent one, none
-abbrev pub text_at : Parameter → Data → List ℕ
-text_at parameter body = option_map_or text_in (value_of parameter body) []
+-- the text of a parameter, where it is there
+abbrev pub text_at : Parameter → List Valued → Option (List ℕ)
+text_at parameter values = text_in (value_at parameter values)
 
 -- the site that `registryId` names, or else that to which the request came
-abbrev pub site_in : SiteId → List SiteId → Data → SiteId
-site_in base served body =
-    unwrap_or (option_and_then (λ value. site_of base served (text_in value)) (value_of RegistryId body)) base
+abbrev pub site_in : SiteId → List SiteId → List Valued → SiteId
+site_in base served values = unwrap_or (option_and_then (site_of base served) (text_at RegistryId values)) base
 
 -- the repository of `repositoryName`
-abbrev pub key_in : SiteId → List SiteId → Data → RepoKey
-key_in base served body = record { site = site_in base served body; name = record { text = text_at RepositoryName body } }
+abbrev pub key_in : SiteId → List SiteId → List Valued → RepoKey
+key_in base served values = record { site = site_in base served values; name = record { text = unwrap_or (text_at RepositoryName values) [] } }
 
 -- `imageTagMutability`, where it is there; else tags may move
-abbrev pub mutability_in : Data → Mutability
-mutability_in body = if bytes_eq (text_at ImageTagMutability body) (codes "IMMUTABLE") then Immutable else Mutable
+abbrev pub mutability_in : List Valued → Mutability
+mutability_in values = unwrap_or (option_and_then mutability_of (text_at ImageTagMutability values)) Mutable
 
 -- `force`, where it is there; else not
-abbrev pub force_in : Data → Bool
-force_in body = unwrap_or (option_and_then as_bool (value_of Force body)) false
+abbrev pub force_in : List Valued → Bool
+force_in values = unwrap_or (truth_in (value_at Force values)) false
 
 -- the names of `repositoryNames`, where it is there
-abbrev pub names_in : Data → Option (List Name)
-names_in body = option_map (λ value. map (λ text. record { text = text }) (texts_of (items_in value))) (value_of RepositoryNames body)
+abbrev pub names_in : List Valued → Option (List Name)
+names_in values = option_map (λ texts. map (λ text. record { text = text }) texts) (texts_in (value_at RepositoryNames values))
 
 -- the page from `nextToken` on of `maxResults` rows, where they are there; else the first page, of 100 rows
-abbrev pub page_in : Data → Page
-page_in body = record {
-  from = unwrap_or (place_of (text_at NextToken body)) 0;
-  max = option_map_or number_in (value_of MaxResults body) 100;
+abbrev pub page_in : List Valued → Page
+page_in values = record {
+  from = unwrap_or (option_and_then place_of (text_at NextToken values)) 0;
+  max = unwrap_or (option_and_then rows_of (whole_in (value_at MaxResults values))) 100;
 }
 
--- the call that the members of a body make
-unfoldable pub asked_by : SiteId → List SiteId → Action → Data → Asked
-asked_by base served CreateRepository body = cell (key_in base served body) (Create (mutability_in body)) None
-asked_by base served DeleteRepository body = cell (key_in base served body) (Delete (force_in body)) None
-asked_by base served DescribeRepositories body = many (site_in base served body) (names_in body) (page_in body)
-asked_by base served PutImageTagMutability body = cell (key_in base served body) (SetMutability (mutability_in body)) None
+-- a call on the repository of `repositoryName`, or the description of several repositories
+pub data Made : Type 0 where
+  one : Call → Made
+  several : Made
 
--- the call, unless a member is bad
-abbrev pub unless_bad : Option Parameter → Asked → Reading
-unless_bad None asked = asks asked
-unless_bad (Some parameter) asked = refuses (InvalidParameter parameter)
+-- what the values of an action's members make
+unfoldable pub made_in : Action → List Valued → Made
+made_in CreateRepository values = one (Create (mutability_in values))
+made_in DeleteRepository values = one (Delete (force_in values))
+made_in DescribeRepositories values = several
+made_in PutImageTagMutability values = one (SetMutability (mutability_in values))
+
+-- what is asked with it
+abbrev pub asked_in : SiteId → List SiteId → List Valued → Made → Asked
+asked_in base served values (one call) = cell (key_in base served values) call None
+asked_in base served values several = many (site_in base served values) (names_in values) (page_in values)
+
+-- the call that the values make
+unfoldable pub made_by : SiteId → List SiteId → Action → List Valued → Reading
+made_by base served action values = asks (asked_in base served values (made_in action values))
+
+-- the reading, unless a member is bad
+abbrev pub unless_bad : Option Parameter → Reading → Reading
+unless_bad None reading = reading
+unless_bad (Some parameter) reading = refuses (InvalidParameter parameter)
+
+-- what the values ask of an action
+unfoldable pub values_reading : SiteId → List SiteId → Action → List Valued → Reading
+values_reading base served action values = unless_bad (first_bad base served values) (made_by base served action values)
 
 -- what a JSON value asks of an action
 unfoldable pub typed_reading : SiteId → List SiteId → Action → Data → Reading
-typed_reading base served action body = if are_typed (members_of action) body
-    then unless_bad (first_bad base served (members_of action) body) (asked_by base served action body)
-    else refuses Serialization
+typed_reading base served action body =
+    option_map_or (values_reading base served action) (typed_members (members_of action) body) (refuses Serialization)
 
 -- what a body asks of an action
 abbrev pub body_reading : SiteId → List SiteId → Action → Option Data → Reading

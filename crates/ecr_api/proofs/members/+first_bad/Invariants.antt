@@ -1,5 +1,0 @@
-use Rattle.std.proofs.Common.{length}
-use Rattle.ecr_api.proofs.members.+first_bad.Given as goal
-
-abbrev pub decreases-first_bad : goal.decreases-first_bad
-decreases-first_bad l = length l.members.now
