@@ -1,5 +1,4 @@
-pub mod ItemLemmas
+pub mod ValueLemmas
 pub mod PlaceLemmas
-pub mod ReadLemmas
 pub mod ThinLemmas
 pub mod TokenLemmas

@@ -1,3 +1,4 @@
 pub mod Readings
 pub mod Named
 pub mod Writings
+pub mod Values

@@ -1,17 +1,18 @@
 -- What was read of a body (Amazon ECR API Reference, "Actions").
-use Rattle.std.specs.Prelude.{◌≡◌, ◌≤◌, List, [], ◌∷◌, Option, None, Some, Result, Ok, Err}
-use Rattle.std.specs.Option.{option_map_or}
-use Rattle.serde_json.specs.Data.{Data}
+use Rattle.std.specs.Prelude.{◌≡◌, List, [], ◌∷◌, Option, None, Some, Result, Ok, Err}
 use Rattle.ecr_model.specs.declared.action.Member.{Member}
 use Rattle.ecr_model.specs.declared.refusal.Parameter.{Parameter}
-use Rattle.ecr_model.specs.declared.refusal.Parameter.TheVariants.{MaxResults, Manifest, Policy}
+use Rattle.ecr_model.specs.declared.refusal.Parameter.TheVariants.{Manifest, Policy}
 use Rattle.ecr_model.specs.Actions as actions
-use Rattle.ecr_model.specs.Members.{number_in, value_of}
+use Rattle.ecr_model.specs.Members.{Valued}
+use Rattle.ecr_blob_upload.specs.declared.call.Load.TheVariants.{Nothing}
 use Rattle.ecr_blob_upload.specs.Loads.{FitsCall, given}
 use Rattle.ecr_api.specs.declared.asked.ApiRefusal.{ApiRefusal}
 use Rattle.ecr_api.specs.declared.asked.ApiRefusal.TheVariants.{Refused, Mem}
 use Rattle.ecr_api.specs.declared.asked.Asked.{Asked}
 use Rattle.ecr_api.specs.declared.asked.Asked.TheVariants.{Cell, Site, Many}
+use Rattle.ecr_api.specs.declared.calls.Made.{Made}
+use Rattle.ecr_api.specs.declared.calls.Made.TheVariants.{One, Several}
 
 -- what is asked, with the bytes that come with it
 abbrev pub meaning : Asked → actions.Asked
@@ -47,6 +48,12 @@ abbrev pub AreMembers : List Member → Type 0
 AreMembers [] = Unit {0}
 AreMembers (m ∷ ms) = IsMember m.parameter × IsMemberOrNone m.apart × AreMembers ms
 
--- `maxResults` is no more than a page may have
-abbrev pub IsPage : Data → Type 0
-IsPage body = option_map_or number_in (value_of MaxResults body) 100 ≤ 1000
+-- where one of the members stands apart from another, that is a member
+abbrev pub AreApart : List Valued → Type 0
+AreApart [] = Unit {0}
+AreApart (v ∷ vs) = IsMemberOrNone v.member.apart × AreApart vs
+
+-- the call that is made comes with nothing
+abbrev pub FitsMade : Made → Type 0
+FitsMade (One call) = FitsCall call Nothing
+FitsMade Several = Unit {0}

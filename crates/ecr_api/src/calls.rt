@@ -1,16 +1,16 @@
-// The call that the members of a body make (Amazon ECR API Reference, "Actions").
-ghost use Rattle.std.specs.Prelude.{◌≡◌, IfOk, None, map, option_map, unwrap_or};
-ghost use Rattle.serde_json.specs.View.{view, items_view};
-ghost use Rattle.ecr_model.specs.Actions.{asked_by, force_in, key_in, members_of, mutability_in, names_in, page_in, site_in, text_at};
-ghost use Rattle.ecr_model.specs.Members.{first_bad};
-ghost use Rattle.ecr_model.specs.Policies.{texts_of};
+// The call that the values of a body's members make (Amazon ECR API Reference, "Actions").
+ghost use Rattle.std.specs.Prelude.{◌≡◌, IfOk, map, option_map, unwrap_or};
+ghost use Rattle.ecr_model.specs.Actions as actions;
+ghost use Rattle.ecr_model.specs.Actions.{asks, force_in, key_in, made_by, made_in, mutability_in, names_in, page_in, site_in, text_at};
 ghost use Rattle.ecr_blob_upload.specs.declared.call.Load.TheVariants.{Nothing};
 ghost use Rattle.ecr_api.specs.declared.asked.Asked.TheVariants.{Cell, Many};
-ghost use Rattle.ecr_api.specs.Readings.{meaning, LoadFits, IsMember, IsPage};
+ghost use Rattle.ecr_api.specs.Readings.{meaning, FitsMade, IsMember, LoadFits};
+ghost use Rattle.ecr_api.specs.Values.{item_text, made_of, row_of};
 
 use crate::Asked;
-use crate::domains::{items_in, number_in, place_of, site_of, text_in};
-use crate::members::value_of;
+use crate::domains::{item_text, mutability_of, place_of, rows_of, site_of};
+use crate::members::{text_in, texts_in, truth_in, value_at, whole_in};
+use crate::values::Valued;
 use ecr_blob_upload::Load;
 use ecr_model::{
     Action, Call, Listed, Mem, Mutability, Name, Page, Parameter, RepoKey, SharedText, SiteId, Twin,
@@ -21,53 +21,63 @@ use std::alloc::Global;
 /// The rows of a page where no number is asked for.
 const ROWS: u32 = 100;
 
-/// The call that the members of a body make, none of which is bad.
-#[tactic(auto, unfolding(ecr_model::specs::Actions::asked_by))]
-pub(crate) fn asked_by(
+/// What the values of an action's members make.
+enum Made {
+    /// A call on the repository of `repositoryName`.
+    One(Call),
+    /// The description of several repositories.
+    Several,
+}
+
+/// The call that the values make.
+#[tactic(auto, unfolding(ecr_model::specs::Actions::made_by))]
+pub(crate) fn made_by(
     alloc: Global,
     base: &SiteId,
     served: &[SiteId],
     action: Action,
-    body: &Value,
+    values: &[Valued<'_>],
 ) -> Result<Asked, Mem>
-    requires { first_bad base.now served.now (members_of action) (view body.now) ≡ None }
-    ensures exact { IfOk result (λ asked. meaning asked ≡ asked_by base.now served.now action (view body.now)) }
+    ensures exact { IfOk result (λ asked. asks (meaning asked) ≡ made_by base.now served.now action (row_of values.now)) }
     ensures fits { IfOk result LoadFits }
 {
+    match made_in(action, values) {
+        Made::One(call) => one(alloc, base, served, values, call),
+        Made::Several => several(alloc, base, served, values),
+    }
+}
+
+/// What the values of an action's members make.
+#[tactic(auto, unfolding(ecr_model::specs::Actions::made_in))]
+fn made_in(action: Action, values: &[Valued<'_>]) -> Made
+    ensures exact { made_of result ≡ made_in action (row_of values.now) }
+    ensures fits { FitsMade result }
+{
     match action {
-        Action::CreateRepository => {
-            let mutability = mutability_in(body);
-            cell(alloc, base, served, body, Call::Create { mutability })
-        }
-        Action::DeleteRepository => {
-            let force = force_in(body);
-            cell(alloc, base, served, body, Call::Delete { force })
-        }
-        Action::DescribeRepositories => many(alloc, base, served, body),
-        Action::PutImageTagMutability => {
-            let mutability = mutability_in(body);
-            cell(
-                alloc,
-                base,
-                served,
-                body,
-                Call::SetMutability { mutability },
-            )
-        }
+        Action::CreateRepository => Made::One(Call::Create {
+            mutability: mutability_in(values),
+        }),
+        Action::DeleteRepository => Made::One(Call::Delete {
+            force: force_in(values),
+        }),
+        Action::DescribeRepositories => Made::Several,
+        Action::PutImageTagMutability => Made::One(Call::SetMutability {
+            mutability: mutability_in(values),
+        }),
     }
 }
 
 /// The call on the repository of `repositoryName`, with nothing that comes with it.
-fn cell(
+fn one(
     alloc: Global,
     base: &SiteId,
     served: &[SiteId],
-    body: &Value,
+    values: &[Valued<'_>],
     call: Call,
 ) -> Result<Asked, Mem>
-    ensures { IfOk result (λ asked. asked ≡ Cell (key_in base.now served.now (view body.now)) call Nothing) }
+    ensures { IfOk result (λ asked. asked ≡ Cell (key_in base.now served.now (row_of values.now)) call Nothing) }
 {
-    let key = key_in(alloc, base, served, body)?;
+    let key = key_in(alloc, base, served, values)?;
     Ok(Asked::Cell {
         key,
         call,
@@ -76,34 +86,44 @@ fn cell(
 }
 
 /// The repositories of `repositoryNames`, or a page of all.
-fn many(alloc: Global, base: &SiteId, served: &[SiteId], body: &Value) -> Result<Asked, Mem>
-    requires { IsPage (view body.now) }
-    ensures { IfOk result (λ asked. asked ≡ (let d = view body.now in Many (site_in base.now served.now d) (names_in d) (page_in d))) }
+fn several(
+    alloc: Global,
+    base: &SiteId,
+    served: &[SiteId],
+    values: &[Valued<'_>],
+) -> Result<Asked, Mem>
+    ensures { IfOk result (λ asked. asked ≡ (let vs = row_of values.now in Many (site_in base.now served.now vs) (names_in vs) (page_in vs))) }
 {
-    let site = site_in(base, served, body).clone()?;
-    let names = names_in(alloc, body)?;
+    let site = site_in(base, served, values).clone()?;
+    let names = names_in(alloc, values)?;
     Ok(Asked::Many {
         site,
         names,
-        page: page_in(body),
+        page: page_in(values),
     })
 }
 
 /// The repository of `repositoryName`.
-fn key_in(alloc: Global, base: &SiteId, served: &[SiteId], body: &Value) -> Result<RepoKey, Mem>
-    ensures { IfOk result (λ key. key ≡ key_in base.now served.now (view body.now)) }
+fn key_in(
+    alloc: Global,
+    base: &SiteId,
+    served: &[SiteId],
+    values: &[Valued<'_>],
+) -> Result<RepoKey, Mem>
+    ensures { IfOk result (λ key. key ≡ key_in base.now served.now (row_of values.now)) }
 {
-    let site = site_in(base, served, body).clone()?;
-    let name = name_of(alloc, text_at(Parameter::RepositoryName, body))?;
+    let site = site_in(base, served, values).clone()?;
+    let text = text_at(Parameter::RepositoryName, values).unwrap_or("");
+    let name = name_of(alloc, text)?;
     Ok(RepoKey { site, name })
 }
 
 /// The site that `registryId` names, or else that to which the request came.
-fn site_in<'a>(base: &'a SiteId, served: &'a [SiteId], body: &Value) -> &'a SiteId
-    ensures { result.now ≡ site_in base.entry.now served.entry.now (view body.now) }
+fn site_in<'a>(base: &'a SiteId, served: &'a [SiteId], values: &[Valued<'_>]) -> &'a SiteId
+    ensures { result.now ≡ site_in base.entry.now served.entry.now (row_of values.now) }
 {
-    match value_of(Parameter::RegistryId, body) {
-        Some(value) => site_or(base, site_of(base, served, text_in(value).as_bytes())),
+    match text_at(Parameter::RegistryId, values) {
+        Some(text) => site_or(base, site_of(base, served, text.as_bytes())),
         None => base,
     }
 }
@@ -118,57 +138,48 @@ fn site_or<'a>(base: &'a SiteId, site: Option<&'a SiteId>) -> &'a SiteId
     }
 }
 
-/// The text of a member; of an absent one, none.
-fn text_at<'a>(parameter: Parameter, body: &'a Value) -> &'a str
+/// The text of a parameter, where it is there.
+fn text_at<'a>(parameter: Parameter, values: &[Valued<'a>]) -> Option<&'a str>
     requires { IsMember parameter }
-    ensures { result.now ≡ text_at parameter (view body.now) }
+    ensures { option_map (λ t. t.now) result ≡ text_at parameter (row_of values.now) }
 {
-    match value_of(parameter, body) {
-        Some(value) => text_in(value),
-        None => "",
-    }
+    text_in(&value_at(parameter, values))
 }
 
 /// `imageTagMutability`, where it is there; else tags may move.
-fn mutability_in(body: &Value) -> Mutability
-    ensures { result ≡ mutability_in (view body.now) }
+fn mutability_in(values: &[Valued<'_>]) -> Mutability
+    ensures { result ≡ mutability_in (row_of values.now) }
 {
-    if text_at(Parameter::ImageTagMutability, body) == "IMMUTABLE" {
-        Mutability::Immutable
-    } else {
-        Mutability::Mutable
+    match text_at(Parameter::ImageTagMutability, values) {
+        Some(text) => mutability_of(text).unwrap_or(Mutability::Mutable),
+        None => Mutability::Mutable,
     }
 }
 
 /// `force`, where it is there; else not.
-fn force_in(body: &Value) -> bool
-    ensures { result ≡ force_in (view body.now) }
+fn force_in(values: &[Valued<'_>]) -> bool
+    ensures { result ≡ force_in (row_of values.now) }
 {
-    match value_of(Parameter::Force, body) {
-        Some(value) => value.as_bool().unwrap_or(false),
-        None => false,
-    }
+    truth_in(&value_at(Parameter::Force, values)).unwrap_or(false)
 }
 
 /// The names of `repositoryNames`, where it is there.
-fn names_in(alloc: Global, body: &Value) -> Result<Option<Listed<Name>>, Mem>
-    ensures { IfOk result (λ names. names ≡ names_in (view body.now)) }
+fn names_in(alloc: Global, values: &[Valued<'_>]) -> Result<Option<Listed<Name>>, Mem>
+    ensures { IfOk result (λ names. names ≡ names_in (row_of values.now)) }
 {
-    match value_of(Parameter::RepositoryNames, body) {
-        Some(value) => Ok(Some(names_of(alloc, items_in(value))?)),
+    match texts_in(&value_at(Parameter::RepositoryNames, values)) {
+        Some(items) => Ok(Some(names_of(alloc, items)?)),
         None => Ok(None),
     }
 }
 
 /// The texts of the items as names.
 fn names_of(alloc: Global, items: &[Value]) -> Result<Listed<Name>, Mem>
-    ensures { IfOk result (λ names. names ≡ map (λ text. record { text = text }) (texts_of (items_view items.now))) }
+    ensures { IfOk result (λ names. names ≡ map (λ text. record { text = text }) (map item_text items.now)) }
 {
     let mut names = Vec::with_capacity(alloc, items.len())?;
     for item in items {
-        if let Some(text) = item.as_str() {
-            names.push(name_of(alloc, text)?)?;
-        }
+        names.push(name_of(alloc, item_text(item))?)?;
     }
     Ok(Listed::from_vec(names))
 }
@@ -182,30 +193,31 @@ fn name_of(alloc: Global, text: &str) -> Result<Name, Mem>
 }
 
 /// The page from `nextToken` on of `maxResults` rows, where they are there; else the first page, of 100 rows.
-fn page_in(body: &Value) -> Page
-    requires { IsPage (view body.now) }
-    ensures { result ≡ page_in (view body.now) }
+fn page_in(values: &[Valued<'_>]) -> Page
+    ensures { result ≡ page_in (row_of values.now) }
 {
     Page {
-        from: from_in(body),
-        max: max_in(body),
+        from: from_in(values),
+        max: max_in(values),
     }
 }
 
 /// The place of `nextToken`, where it is there; else the first.
-fn from_in(body: &Value) -> u64
-    ensures { result ≡ (page_in (view body.now)).from }
+fn from_in(values: &[Valued<'_>]) -> u64
+    ensures { result ≡ (page_in (row_of values.now)).from }
 {
-    place_of(text_at(Parameter::NextToken, body)).unwrap_or(0)
+    match text_at(Parameter::NextToken, values) {
+        Some(text) => place_of(text).unwrap_or(0),
+        None => 0,
+    }
 }
 
 /// `maxResults`, where it is there; else 100.
-fn max_in(body: &Value) -> u32
-    requires { IsPage (view body.now) }
-    ensures { result ≡ (page_in (view body.now)).max }
+fn max_in(values: &[Valued<'_>]) -> u32
+    ensures { result ≡ (page_in (row_of values.now)).max }
 {
-    match value_of(Parameter::MaxResults, body) {
-        Some(value) => number_in(value) as u32,
+    match whole_in(&value_at(Parameter::MaxResults, values)) {
+        Some(number) => rows_of(number).unwrap_or(ROWS),
         None => ROWS,
     }
 }

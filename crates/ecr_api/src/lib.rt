@@ -14,6 +14,7 @@ mod members;
 mod read;
 #[cfg(test)]
 mod tests;
+mod values;
 mod write;
 
 pub use asked::{ApiRefusal, Asked};

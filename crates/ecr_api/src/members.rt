@@ -1,62 +1,44 @@
-// The members of a body: whether they have their types, and the first that is bad (RFC 8259; Amazon ECR API Reference).
-ghost use Rattle.std.specs.Prelude.{◌≡◌, option_map};
-ghost use Rattle.std.specs.List.{list_all};
-ghost use Rattle.serde_json.specs.View.{view};
-ghost use Rattle.ecr_model.specs.Members.{are_typed, first_bad, is_bad, is_typed, stands_beside, unless_null, value_of};
-ghost use Rattle.ecr_api.specs.Readings.{AreMembers, IsMember, IsMemberOrNone};
+// The values of a body's members: by their names, and the first that is bad (Amazon ECR API Reference).
+ghost use Rattle.std.specs.Prelude.{◌≡◌, find, map, option_map};
+ghost use Rattle.std.specs.Option.{option_map_or};
+ghost use Rattle.ecr_model.specs.Members.{first_bad, is_bad, is_there, named_value, stands_beside, text_in, texts_in, truth_in, value_at, whole_in};
+ghost use Rattle.ecr_api.specs.Readings.{AreApart, IsMember, IsMemberOrNone};
+ghost use Rattle.ecr_api.specs.Values.{item_text, row_of, typed_of, valued_of};
 
 use crate::actions::parameter_text;
-use crate::domains::{allows, has_type};
-use ecr_model::{Member, Parameter, SiteId};
+use crate::domains::allows;
+use crate::values::{Typed, Valued};
+use ecr_model::{Parameter, SiteId};
 use serde_json::Value;
-
-/// Whether the body is an object whose members of these names have their types.
-#[tactic(auto, unfolding(ecr_model::specs::Members::are_typed))]
-pub(crate) fn are_typed(members: &[Member], body: &Value) -> bool
-    requires { AreMembers members.now }
-    ensures { result ≡ are_typed members.now (view body.now) }
-{
-    body.is_object() && all_typed(members, body)
-}
-
-/// Whether each of the members has its type.
-fn all_typed(members: &[Member], body: &Value) -> bool
-    requires { AreMembers members.now }
-    ensures { result ≡ list_all (is_typed (view body.now)) members.now }
-{
-    match members {
-        [member, rest @ ..] => is_typed(body, member) && all_typed(rest, body),
-        [] => true,
-    }
-}
-
-/// Whether the member has its type; an absent one has.
-fn is_typed(body: &Value, member: &Member) -> bool
-    requires { IsMember member.now.parameter }
-    ensures { result ≡ is_typed (view body.now) member.now }
-{
-    match value_of(member.parameter, body) {
-        Some(value) => has_type(member.domain, value),
-        None => true,
-    }
-}
 
 /// The first of the members that is bad.
 #[tactic(auto, unfolding(ecr_model::specs::Members::first_bad))]
 pub(crate) fn first_bad(
     base: &SiteId,
     served: &[SiteId],
-    members: &[Member],
-    body: &Value,
+    values: &[Valued<'_>],
 ) -> Option<Parameter>
-    requires { AreMembers members.now }
-    ensures { result ≡ first_bad base.now served.now members.now (view body.now) }
+    requires { AreApart (row_of values.now) }
+    ensures { result ≡ first_bad base.now served.now (row_of values.now) }
 {
-    match members {
-        [member, rest @ ..] => if is_bad(base, served, body, member) {
-            Some(member.parameter)
+    first_bad_of(base, served, values, values)
+}
+
+/// The first of these members that is bad beside all.
+fn first_bad_of<'a>(
+    base: &SiteId,
+    served: &[SiteId],
+    all: &[Valued<'a>],
+    values: &[Valued<'a>],
+) -> Option<Parameter>
+    requires { AreApart (row_of values.now) }
+    ensures { result ≡ option_map (λ v. v.member.parameter) (find (is_bad base.now served.now (row_of all.now)) (row_of values.now)) }
+{
+    match values {
+        [valued, rest @ ..] => if is_bad(base, served, all, valued) {
+            Some(valued.member.parameter)
         } else {
-            first_bad(base, served, rest, body)
+            first_bad_of(base, served, all, rest)
         },
         [] => None,
     }
@@ -64,41 +46,112 @@ pub(crate) fn first_bad(
 
 /// Whether the member is absent where it must be there, is out of its domain, or stands beside one from which it is
 /// apart.
-fn is_bad(base: &SiteId, served: &[SiteId], body: &Value, member: &Member) -> bool
-    requires named { IsMember member.now.parameter }
-    requires apart { IsMemberOrNone member.now.apart }
-    ensures { result ≡ is_bad base.now served.now (view body.now) member.now }
+fn is_bad(base: &SiteId, served: &[SiteId], all: &[Valued<'_>], valued: &Valued<'_>) -> bool
+    requires { IsMemberOrNone valued.now.member.apart }
+    ensures { result ≡ is_bad base.now served.now (row_of all.now) (valued_of valued.now) }
 {
-    match value_of(member.parameter, body) {
-        Some(value) => {
-            !allows(base, served, member.domain, value) || stands_beside(body, member.apart)
-        }
-        None => member.required,
+    if is_there(&valued.value) {
+        !allows(base, served, valued.member.domain, &valued.value)
+            || stands_beside(all, valued.member.apart)
+    } else {
+        valued.member.required
     }
 }
 
-/// Whether the member is there, where one is given.
-fn stands_beside(body: &Value, other: Option<Parameter>) -> bool
+/// Whether the parameter, where one is given, has a value.
+fn stands_beside(values: &[Valued<'_>], other: Option<Parameter>) -> bool
     requires { IsMemberOrNone other }
-    ensures { result ≡ stands_beside (view body.now) other }
+    ensures { result ≡ stands_beside (row_of values.now) other }
 {
     match other {
-        Some(parameter) => value_of(parameter, body).is_some(),
+        Some(parameter) => is_there(&value_at(parameter, values)),
         None => false,
     }
 }
 
-/// The value of a member, where it is there and isn't null.
-pub(crate) fn value_of<'a>(parameter: Parameter, body: &'a Value) -> Option<&'a Value>
+/// The value of a parameter.
+pub(crate) fn value_at<'a>(parameter: Parameter, values: &[Valued<'a>]) -> Typed<'a>
     requires { IsMember parameter }
-    ensures { option_map (λ v. view v.now) result ≡ value_of parameter (view body.now) }
+    ensures { typed_of result ≡ value_at parameter (row_of values.now) }
 {
-    unless_null(body.get(parameter_text(parameter))?)
+    named_value(parameter_text(parameter), values)
 }
 
-/// The value, unless it is null.
-fn unless_null<'a>(value: &'a Value) -> Option<&'a Value>
-    ensures { option_map (λ v. view v.now) result ≡ unless_null (view value.now) }
+/// The value of the member of that name; where none has it, it is absent.
+fn named_value<'a>(name: &str, values: &[Valued<'a>]) -> Typed<'a>
+    ensures { typed_of result ≡ named_value name.now (row_of values.now) }
 {
-    if value.is_null() { None } else { Some(value) }
+    match values {
+        [valued, rest @ ..] => if valued.name == name {
+            valued.value
+        } else {
+            named_value(name, rest)
+        },
+        [] => Typed::Absent,
+    }
+}
+
+/// Whether there is a value.
+fn is_there(value: &Typed<'_>) -> bool
+    ensures { result ≡ is_there (typed_of value.now) }
+{
+    match value {
+        Typed::Absent => false,
+        Typed::Text(_) => true,
+        Typed::Whole(_) => true,
+        Typed::Truth(_) => true,
+        Typed::Texts(_) => true,
+    }
+}
+
+/// The text that the value is.
+pub(crate) fn text_in<'a>(value: &Typed<'a>) -> Option<&'a str>
+    ensures { option_map (λ t. t.now) result ≡ text_in (typed_of value.now) }
+{
+    match value {
+        Typed::Text(text) => Some(*text),
+        Typed::Absent => None,
+        Typed::Whole(_) => None,
+        Typed::Truth(_) => None,
+        Typed::Texts(_) => None,
+    }
+}
+
+/// The whole number that the value is.
+pub(crate) fn whole_in(value: &Typed<'_>) -> Option<i128>
+    ensures { result ≡ whole_in (typed_of value.now) }
+{
+    match value {
+        Typed::Whole(number) => Some(*number),
+        Typed::Absent => None,
+        Typed::Text(_) => None,
+        Typed::Truth(_) => None,
+        Typed::Texts(_) => None,
+    }
+}
+
+/// The truth value that the value is.
+pub(crate) fn truth_in(value: &Typed<'_>) -> Option<bool>
+    ensures { result ≡ truth_in (typed_of value.now) }
+{
+    match value {
+        Typed::Truth(truth) => Some(*truth),
+        Typed::Absent => None,
+        Typed::Text(_) => None,
+        Typed::Whole(_) => None,
+        Typed::Texts(_) => None,
+    }
+}
+
+/// The items of the list of texts that the value is.
+pub(crate) fn texts_in<'a>(value: &Typed<'a>) -> Option<&'a [Value]>
+    ensures { option_map (λ items. map item_text items.now) result ≡ texts_in (typed_of value.now) }
+{
+    match value {
+        Typed::Texts(items) => Some(*items),
+        Typed::Absent => None,
+        Typed::Text(_) => None,
+        Typed::Whole(_) => None,
+        Typed::Truth(_) => None,
+    }
 }

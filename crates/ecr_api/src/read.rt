@@ -2,13 +2,15 @@
 ghost use Rattle.std.specs.Prelude.{◌≡◌, IfOk, map, option_map};
 ghost use Rattle.serde_json.specs.View.{view};
 ghost use Rattle.ecr_json.specs.Thin.{IsThinOf};
-ghost use Rattle.ecr_model.specs.Actions.{body_reading, reading, typed_reading};
+ghost use Rattle.ecr_model.specs.Actions.{body_reading, reading, typed_reading, values_reading};
 ghost use Rattle.ecr_model.specs.Documents.{document};
-ghost use Rattle.ecr_api.specs.Readings.{LoadFits, Reads};
+ghost use Rattle.ecr_api.specs.Readings.{AreApart, LoadFits, Reads};
+ghost use Rattle.ecr_api.specs.Values.{row_of};
 
 use crate::actions::{action_of, member_names, members_of};
-use crate::calls::asked_by;
-use crate::members::{are_typed, first_bad};
+use crate::calls::made_by;
+use crate::members::first_bad;
+use crate::values::{Valued, typed_members};
 use crate::{ApiRefusal, Asked};
 use ecr_json::read_thin;
 use ecr_model::{Action, Mem, Refusal, SiteId};
@@ -93,13 +95,28 @@ fn read_value(
     ensures exact { Reads result (typed_reading base.now served.now action (view body.now)) }
     ensures fits { IfOk result LoadFits }
 {
-    let members = members_of(action);
-    if !are_typed(members, body) {
-        return Err(ApiRefusal::Refused(Refusal::Serialization));
+    match typed_members(alloc, members_of(action), body)? {
+        Some(values) => read_values(alloc, base, served, action, values.as_slice()),
+        None => Err(ApiRefusal::Refused(Refusal::Serialization)),
     }
-    match first_bad(base, served, members, body) {
+}
+
+/// What the values of its members ask of an action.
+#[tactic(auto, unfolding(ecr_model::specs::Actions::values_reading))]
+fn read_values(
+    alloc: Global,
+    base: &SiteId,
+    served: &[SiteId],
+    action: Action,
+    values: &[Valued<'_>],
+) -> Result<Asked, ApiRefusal>
+    requires { AreApart (row_of values.now) }
+    ensures exact { Reads result (values_reading base.now served.now action (row_of values.now)) }
+    ensures fits { IfOk result LoadFits }
+{
+    match first_bad(base, served, values) {
         Some(parameter) => Err(ApiRefusal::Refused(Refusal::InvalidParameter(parameter))),
-        None => Ok(asked_by(alloc, base, served, action, body)?),
+        None => Ok(made_by(alloc, base, served, action, values)?),
     }
 }
 
