@@ -1,8 +1,8 @@
 -- Why a call is answered that there is no such repository.
-use Rattle.std.proofs.Common.{◌≡◌, ◌⊎◌, inl, inr, ℕ, Bool, true, false, Option, None, Some, is_some, not, ◌&&◌, List, [], ◌∷◌, if◌then◌else◌, refl}
+use Rattle.std.proofs.Common.{◌≡◌, ◌⊎◌, inl, inr, ℕ, Bool, true, false, Option, None, Some, is_some, not, ◌&&◌, List, [], ◌∷◌, if◌then◌else◌, refl, arith}
 use Rattle.std.specs.Option.{option_map_or}
 use Rattle.ecr_model.specs.declared.call.Call.{Call}
-use Rattle.ecr_model.specs.declared.call.Call.TheVariants.{Create, Delete, Describe, SetMutability}
+use Rattle.ecr_model.specs.declared.call.Call.TheVariants.{Create, Delete, Describe}
 use Rattle.ecr_model.specs.declared.directory.Directory as kept
 use Rattle.ecr_model.specs.declared.directory.Registered.{Registered}
 use Rattle.ecr_model.specs.declared.directory.Registered.TheVariants.{New, Known, Full}
@@ -20,23 +20,7 @@ use Rattle.ecr_model.specs.Scripts.{ends, Realm, World, frame_of, next_ticket, r
 use Rattle.ecr_model.specs.ScriptLaws.{NotFoundHasItsCause}
 use Rattle.ecr_model.specs.Steps as steps
 
--- what is decided where the repository is present has another answer
-absent_by : (present : Option Presence) (decide : Presence → steps.Outcome)
-    → ((p : Presence) → (decide p).reply ≡ Refused RepositoryNotFound → ⊥)
-    → (option_map_or decide present (steps.refuses RepositoryNotFound)).reply ≡ Refused RepositoryNotFound → present ≡ None
-absent_by None decide other is = refl
-absent_by (Some p) decide other is = absurd (other p is)
-
-deletes_other : (full : Bool) (after : State) (p : Presence)
-    → (if full then steps.refuses RepositoryNotEmpty else steps.becomes after (Deleted p.created p.mutability)).reply ≡ Refused RepositoryNotFound → ⊥
-deletes_other true after p is = absurd (cc)
-deletes_other false after p is = absurd (cc)
-
-sets_other : (same : Bool) (after : State) (mutability : Mutability)
-    → (if same then steps.answers (MutabilitySet mutability) else steps.becomes after (MutabilitySet mutability)).reply ≡ Refused RepositoryNotFound → ⊥
-sets_other true after mutability is = absurd (cc)
-sets_other false after mutability is = absurd (cc)
-
+-- a creation is answered otherwise
 creates_other : (present : Bool) (after : State) (moment : ℕ) (mutability : Mutability)
     → (if present then steps.refuses RepositoryAlreadyExists else steps.becomes after (Created moment mutability)).reply ≡ Refused RepositoryNotFound → ⊥
 creates_other true after moment mutability is = absurd (cc)
@@ -46,18 +30,7 @@ creates_other false after moment mutability is = absurd (cc)
 absent : (key : RepoKey) (s : State) (turn : steps.Turn) (limits : Limits) (call : Call)
     → (steps.step key limits s turn call).reply ≡ Refused RepositoryNotFound → s.present ≡ None
 unfolding steps.step
-absent key s turn limits (Create mutability) is =
-    absurd (creates_other (is_some s.present) (record s { present = Some (record { created = turn.moment; mutability = mutability }) }) turn.moment mutability is)
-absent key s turn limits (Delete force) is =
-    absent_by s.present
-    (λ p. if not force && steps.has_images s.images then steps.refuses RepositoryNotEmpty else steps.becomes (steps.emptied s) (Deleted p.created p.mutability))
-    (λ p. deletes_other (not force && steps.has_images s.images) (steps.emptied s) p) is
-absent key s turn limits Describe is =
-    absent_by s.present (λ p. steps.answers (Described (record { name = key.name; created = p.created; mutability = p.mutability } ∷ []) None)) (λ p e. absurd (cc)) is
-absent key s turn limits (SetMutability mutability) is =
-    absent_by s.present
-    (λ p. if steps.same_mutability mutability p.mutability then steps.answers (MutabilitySet mutability) else steps.becomes (record s { present = Some (record p { mutability = mutability }) }) (MutabilitySet mutability))
-    (λ p. sets_other (steps.same_mutability mutability p.mutability) (record s { present = Some (record p { mutability = mutability }) }) mutability) is
+absent key s turn limits call is = grind arith
 
 -- the repository as at the next ticket
 abbrev now : Realm → World → RepoKey → State
