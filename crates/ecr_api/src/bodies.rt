@@ -6,7 +6,7 @@ ghost use Rattle.serde_json.specs.Written.{compact_text};
 ghost use Rattle.ecr_model.specs.Rendered.{key_asked, mutability_text, reply_data, repository_data, rows_data, site_asked, with_token};
 ghost use Rattle.ecr_model.specs.Sites.{utf8_or_empty};
 ghost use Rattle.ecr_api.specs.Readings.{meaning};
-ghost use Rattle.ecr_api.specs.Writings.{data_tokens, member_tokens, rest_tokens};
+ghost use Rattle.ecr_api.specs.Writings.{data_tokens, member_tokens, rest_tokens, written_data};
 
 use crate::Asked;
 use ecr_base::{utf8_or_empty, write_arn_at, write_uri_at};
@@ -20,6 +20,13 @@ const BODY_ROOM: usize = 64;
 
 /// Room for a repository, in bytes: one with a short name takes less than this.
 const ROW_ROOM: usize = 320;
+
+/// A member of an object that is written: its name, and its text.
+#[derive(Clone, Copy)]
+struct Written<'a> {
+    name: &'a str,
+    text: &'a str,
+}
 
 /// The body of a reply to what was asked.
 #[tactic(auto, unfolding(ecr_model::specs::Rendered::reply_data))]
@@ -93,16 +100,24 @@ fn mutability_body(alloc: Global, asked: &Asked, mutability: Mutability) -> Resu
         (member (codes "registryId") (string (utf8_or_empty (key_asked (meaning asked.now)).site.account))
         (member (codes "repositoryName") (string (utf8_or_empty (key_asked (meaning asked.now)).name.text)) no_members))))) }
 {
+    let account = utf8_or_empty(site_asked(asked).account.as_bytes());
+    object_body(
+        alloc,
+        &[
+            text_of("imageTagMutability", mutability_text(mutability)),
+            text_of("registryId", account),
+            text_of("repositoryName", utf8_or_empty(name_asked(asked))),
+        ],
+    )
+}
+
+/// The body that is an object of these members, which stand in the order of their names.
+fn object_body(alloc: Global, members: &[Written<'_>]) -> Result<Vec<u8>, Mem>
+    ensures { IfOk result (λ b. b.items ≡ compact_text (object (written_data members.now))) }
+{
     let mut out = begin(alloc, ROW_ROOM)?;
     out.begin_object()?;
-    write_text(&mut out, "imageTagMutability", mutability_text(mutability))?;
-    write_text(
-        &mut out,
-        "registryId",
-        utf8_or_empty(site_asked(asked).account.as_bytes()),
-    )?;
-    write_text(&mut out, "repositoryName", utf8_or_empty(name_asked(asked)))?;
-    out.end_object()?;
+    write_members(&mut out, members)?;
     Ok(finish(out))
 }
 
@@ -213,6 +228,25 @@ fn write_repository(
     write_text(out, "repositoryName", utf8_or_empty(name))?;
     write_text(out, "repositoryUri", uri.as_str())?;
     out.end_object()
+}
+
+/// Writes the members of an object, and its end.
+fn write_members(out: &mut Writer, members: &[Written<'_>]) -> Result<(), Mem>
+    ensures ok { OnOk result (out.new.tokens ≡ out.old.tokens ++ member_tokens (written_data members.now)) }
+    ensures before { out.new.before ≡ out.old.before }
+{
+    for member in members {
+        write_text(out, member.name, member.text)?;
+    }
+    out.end_object()
+}
+
+/// The member of that name with that text.
+fn text_of<'a>(name: &'a str, text: &'a str) -> Written<'a>
+    ensures name { result.name.now ≡ name.entry.now }
+    ensures text { result.text.now ≡ text.entry.now }
+{
+    Written { name, text }
 }
 
 /// Writes a member that is a text.
