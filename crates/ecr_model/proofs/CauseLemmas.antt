@@ -1,18 +1,16 @@
 -- Why a call is answered that there is no such repository.
-use Rattle.std.proofs.Common.{◌≡◌, ◌⊎◌, inl, inr, ℕ, Bool, true, false, Option, None, Some, is_some, not, ◌&&◌, List, [], ◌∷◌, if◌then◌else◌, refl, arith}
-use Rattle.std.specs.Option.{option_map_or}
+use Rattle.std.proofs.Common.{◌≡◌, ◌⊎◌, inl, inr, ℕ, Bool, true, false, Option, None, Some, is_some, List, if◌then◌else◌, refl, arith}
 use Rattle.ecr_model.specs.declared.call.Call.{Call}
-use Rattle.ecr_model.specs.declared.call.Call.TheVariants.{Create, Delete, Describe}
+use Rattle.ecr_model.specs.declared.call.Call.TheVariants.{Create}
 use Rattle.ecr_model.specs.declared.directory.Directory as kept
 use Rattle.ecr_model.specs.declared.directory.Registered.{Registered}
 use Rattle.ecr_model.specs.declared.directory.Registered.TheVariants.{New, Known, Full}
 use Rattle.ecr_model.specs.declared.journal.CellKey.TheVariants.{Directory, Repository}
 use Rattle.ecr_model.specs.declared.journal.Limits.{Limits}
 use Rattle.ecr_model.specs.declared.names.RepoKey.{RepoKey}
-use Rattle.ecr_model.specs.declared.refusal.Refusal.TheVariants.{RepositoryNotFound, RepositoryNotEmpty, RepositoryAlreadyExists, LimitExceeded}
-use Rattle.ecr_model.specs.declared.reply.Reply.TheVariants.{Created, Deleted, Described, MutabilitySet, Refused}
+use Rattle.ecr_model.specs.declared.refusal.Refusal.TheVariants.{RepositoryNotFound, RepositoryAlreadyExists, LimitExceeded}
+use Rattle.ecr_model.specs.declared.reply.Reply.TheVariants.{Created, Refused}
 use Rattle.ecr_model.specs.declared.repository.Mutability.{Mutability}
-use Rattle.ecr_model.specs.declared.repository.Presence.{Presence}
 use Rattle.ecr_model.specs.declared.repository.Repository.{Repository as State}
 use Rattle.ecr_model.specs.Directories as directories
 use Rattle.ecr_model.specs.Requests.{plain, beside_of, call_script, first_turn, then_cell, cell_turn}

@@ -1,6 +1,6 @@
 -- The actions: the members of their bodies, and what a request asks for (Amazon ECR API Reference, "Actions"). The
 -- refusals have one order: first an unknown action, then a wrong JSON type, then the first member that is bad.
-use Rattle.std.specs.Prelude.{ℕ, Bool, true, false, List, [], ◌∷◌, ◌++◌, map, Option, None, Some, if◌then◌else◌, codes, bytes_eq, unwrap_or, option_map, option_and_then, find}
+use Rattle.std.specs.Prelude.{ℕ, Bool, true, false, List, [], ◌∷◌, ◌++◌, map, Option, None, Some, codes, bytes_eq, unwrap_or, option_map, option_and_then, find}
 use Rattle.std.specs.Option.{option_map_or}
 use Rattle.serde_json.specs.Data.{Data}
 use Rattle.ecr_model.specs.declared.action.Action.{Action}
