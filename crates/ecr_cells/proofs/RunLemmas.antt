@@ -11,49 +11,68 @@ use Rattle.ecr_model.specs.declared.names.SiteId.{SiteId}
 use Rattle.ecr_model.specs.declared.refusal.Refusal.{Refusal}
 use Rattle.ecr_model.specs.declared.reply.Reply.TheVariants.{Refused}
 use Rattle.ecr_model.specs.Requests.{plain, beside_of, first_ask, first_turn, cell_turn, then_cell, site_script, reply_told, site_told}
-use Rattle.ecr_model.specs.Scripts.{Ask, Told, call, site_call, ends, turn, run}
-use Rattle.ecr_desk.specs.Desks.{Seen, Ran}
+use Rattle.ecr_model.specs.Scripts.{Ask, Told, call, site_call, ends, turn, then_do, run}
+use Rattle.ecr_model.specs.Soundness.{AreSound}
+use Rattle.ecr_desk.specs.Desks.{DeskState, StillState, seen_by, Ran, Runs}
+use Rattle.ecr_desk.proofs.DeskLemmas.{Ran-ends, Ran-then, Runs-ran}
 use Rattle.ecr_cells.specs.declared.deed.Done.{Done}
 use Rattle.ecr_cells.specs.declared.deed.Done.TheVariants as done
 use Rattle.ecr_cells.specs.Deeds.{told_of, refusal_of}
 use Rattle.ecr_cells.specs.Desks.{Took}
 
--- a turn and then an answer
-Ran-turn : {A : Type 0} (before after : Seen) (cell : CellKey) (ask : Ask) (told : Told) (place : Place) (answer : Told → A)
-    → Took before after cell ask told place → Ran before after (turn cell ask (λ t. ends (answer t))) (answer told) (place ∷ [])
+-- a turn that was made
+abbrev pub MadeTurn : DeskState → DeskState → CellKey → Ask → Told → Place → Type 0
+MadeTurn before after cell ask told place = Ran before after (turn cell ask (λ t. ends t)) told (place ∷ [])
+
+Runs-took : (before after : StillState) (cell : CellKey) (ask : Ask) (told : Told) (place : Place)
+    → Took before after cell ask told place → Runs before after (turn cell ask (λ t. ends t)) told (place ∷ [])
 unfolding run
-Ran-turn before after cell ask told place answer took = record {
+Runs-took before after cell ask told place took = record {
   realm_stays = took.realm_stays;
   left = took.left;
   counted = omega (arith, took.counted);
   placed = ap (λ p. p ∷ []) took.placed;
-  answered = ap answer took.told_is;
+  answered = took.told_is;
 }
 
-pub Ran-first_turn : (before after : Seen) (key : RepoKey) (c : Call) (site : SiteId) (ask : Ask) (told : Told) (place : Place)
+-- the next turn over sound journals
+pub Ran-took : (before after : StillState) (cell : CellKey) (ask : Ask) (told : Told) (place : Place)
+    → AreSound before.realm before.world.journals → Took before after cell ask told place
+    → MadeTurn (seen_by before) (seen_by after) cell ask told place
+Ran-took before after cell ask told place sound took =
+    Runs-ran before after (turn cell ask (λ t. ends t)) told (place ∷ []) sound (Runs-took before after cell ask told place took)
+
+-- a turn and then an answer
+Ran-turn : {A : Type 0} (before after : DeskState) (cell : CellKey) (ask : Ask) (told : Told) (place : Place) (answer : Told → A)
+    → MadeTurn before after cell ask told place → Ran before after (turn cell ask (λ t. ends (answer t))) (answer told) (place ∷ [])
+unfolding then_do
+Ran-turn before after cell ask told place answer made =
+    Ran-then before after after (turn cell ask (λ t. ends t)) (λ t. ends (answer t)) told (answer told) (place ∷ []) [] made (Ran-ends after (answer told))
+
+pub Ran-first_turn : (before after : DeskState) (key : RepoKey) (c : Call) (site : SiteId) (ask : Ask) (told : Told) (place : Place)
     → site ≡ key.site → ask ≡ first_ask key.name c
-    → Took before after (Directory site) ask told place
+    → MadeTurn before after (Directory site) ask told place
     → Ran before after (first_turn key c) told (place ∷ [])
 unfolding first_turn
 Ran-first_turn before after key c site ask told place at asks took =
     Ran-turn before after (Directory key.site) (first_ask key.name c) told place (λ t. t)
-    (subst (λ (a : Ask). Took before after (Directory key.site) a told place) asks
-    (subst (λ (s : SiteId). Took before after (Directory s) ask told place) at took))
+    (subst (λ (a : Ask). MadeTurn before after (Directory key.site) a told place) asks
+    (subst (λ (s : SiteId). MadeTurn before after (Directory s) ask told place) at took))
 
-pub Ran-cell_turn : (before after : Seen) (key copy : RepoKey) (c : Call) (given : Option (List ℕ)) (moment : ℕ) (told : Told) (place : Place)
-    → copy ≡ key → Took before after (Repository copy) (call (beside_of given moment) c) told place
+pub Ran-cell_turn : (before after : DeskState) (key copy : RepoKey) (c : Call) (given : Option (List ℕ)) (moment : ℕ) (told : Told) (place : Place)
+    → copy ≡ key → MadeTurn before after (Repository copy) (call (beside_of given moment) c) told place
     → Ran before after (cell_turn key c given moment) (reply_told told) (place ∷ [])
 Ran-cell_turn before after key copy c given moment told place at took =
     Ran-turn before after (Repository key) (call (beside_of given moment) c) told place reply_told
-    (subst (λ (k : RepoKey). Took before after (Repository k) (call (beside_of given moment) c) told place) at took)
+    (subst (λ (k : RepoKey). MadeTurn before after (Repository k) (call (beside_of given moment) c) told place) at took)
 
-pub Ran-site_script : (before after : Seen) (site copy : SiteId) (c : SiteCall) (told : Told) (place : Place)
-    → copy ≡ site → Took before after (Directory copy) (site_call c) told place
+pub Ran-site_script : (before after : DeskState) (site copy : SiteId) (c : SiteCall) (told : Told) (place : Place)
+    → copy ≡ site → MadeTurn before after (Directory copy) (site_call c) told place
     → Ran before after (site_script site c) (site_told told) (place ∷ [])
 unfolding site_script
 Ran-site_script before after site copy c told place at took =
     Ran-turn before after (Directory site) (site_call c) told place site_told
-    (subst (λ (s : SiteId). Took before after (Directory s) (site_call c) told place) at took)
+    (subst (λ (s : SiteId). MadeTurn before after (Directory s) (site_call c) told place) at took)
 
 -- ---- the first turn
 

@@ -11,7 +11,7 @@ use Rattle.ecr_model.specs.declared.names.SiteId.{SiteId}
 use Rattle.ecr_model.specs.Scripts.{Ask, Told, World, next_ticket, next_turn, entered, place_of, count_of}
 use Rattle.ecr_model.specs.Sites.{site_order}
 use Rattle.ecr_model.specs.Soundness.{AreSound}
-use Rattle.ecr_desk.specs.Desks.{Seen}
+use Rattle.ecr_desk.specs.Desks.{DeskState, StillState, seen_by}
 use Rattle.ecr_cells.specs.SiteCells.{Site, lines_of, site_of, IsQuiet, IsTurn}
 
 -- the cells of a site, where it is served
@@ -34,8 +34,12 @@ pub record Desk : Type 0 where
   pub made : ℕ
 
 -- the sites and limits, the journals, and the number of entries of a desk
-abbrev pub seen_of : Desk → Seen
+abbrev pub seen_of : Desk → StillState
 seen_of desk = record { realm = record { served = desk.served; limits = desk.limits }; world = world_of desk.sites; made = desk.made }
+
+-- the same as its caller sees it, which is alone
+abbrev pub state_of : Desk → DeskState
+state_of desk = seen_by (seen_of desk)
 
 -- the cells are those of that site
 pub record IsOfSite (served : List SiteId) (limits : Limits) (site : SiteId) (kept : Site) : Type 0 where
@@ -90,7 +94,7 @@ pub record Rests (sites news : List (SiteId × Site)) (site : SiteId) : Type 0 w
   pub quiet : IsQuiet before after
 
 -- the next turn in a cell, by caller 0: its answer, its place, and the desk afterwards, which counted its entry
-pub record Took (before after : Seen) (cell : CellKey) (ask : Ask) (told : Told) (place : Place) : Type 0 where
+pub record Took (before after : StillState) (cell : CellKey) (ask : Ask) (told : Told) (place : Place) : Type 0 where
   pub realm_stays : after.realm ≡ before.realm
   pub told_is : told ≡ (next_turn before.realm before.world cell ask).told
   pub placed : place ≡ place_of cell (next_ticket before.world cell) (next_turn before.realm before.world cell ask)

@@ -1,15 +1,15 @@
 // The desk of one caller in memory.
-ghost use Rattle.std.specs.Prelude.{◌≡◌, ◌∷◌, ◌+◌, ◌<◌, ◌≤◌, ◌^◌, [], None, false, Contains, IfOk, OnErr, if◌then◌else◌, vec_len, vec_capacity};
+ghost use Rattle.std.specs.Prelude.{◌≡◌, ◌∷◌, ◌+◌, ◌<◌, ◌≤◌, ◌^◌, [], None, false, refl, Contains, IfOk, OnErr, if◌then◌else◌, vec_len, vec_capacity};
 ghost use Rattle.ecr_blob_upload.specs.Loads.{FitsCall, given};
 ghost use Rattle.ecr_model.specs.declared.reply.Reply.TheVariants as replies;
 ghost use Rattle.ecr_model.specs.declared.reply.SiteReply.TheVariants as site_replies;
 ghost use Rattle.ecr_model.specs.Contents.{AreContents};
 ghost use Rattle.ecr_model.specs.Requests as scripts;
 ghost use Rattle.ecr_model.specs.Requests.{plain, reply_told, site_told};
-ghost use Rattle.ecr_model.specs.Scripts.{fresh};
+ghost use Rattle.ecr_model.specs.Scripts.{fresh, ends, turn};
 ghost use Rattle.ecr_desk.specs.Desks.{Ran};
 ghost use Rattle.ecr_cells.specs.Deeds.{ask_of, told_of, Fits, HasContents};
-ghost use Rattle.ecr_cells.specs.Desks.{seen_of, places_of, Took};
+ghost use Rattle.ecr_cells.specs.Desks.{seen_of, state_of, places_of};
 ghost use Rattle.ecr_cells.specs.SiteCells.{site_of};
 
 use crate::cells;
@@ -17,7 +17,7 @@ use crate::cells::{Cells, cells_of, copy_of};
 use crate::deed::{Deed, Done, first_deed, refusal_of};
 use crate::repository::{copy_of as copy_of_key, copy_of_name};
 use ecr_blob_upload::{Load, Outcome};
-use ecr_desk::{Answer, SiteAnswer, StillDesk};
+use ecr_desk::{Answer, AnyDesk, SiteAnswer, StillDesk};
 use ecr_model::{
     Call, CellKey, Limits, Listed, Mem, Moment, Place, Refusal, Reply, RepoKey, SiteCall, SiteId,
     SiteReply,
@@ -63,7 +63,7 @@ impl SoloDesk {
     fn make(&mut self, alloc: Global, cell: CellKey, deed: Deed) -> Result<(Done, Place), Mem>
         requires served { Contains self.old.served (site_of cell) }
         requires fits { Fits deed }
-        ensures took { IfOk result (λ t. Took (seen_of self.old) (seen_of self.new) cell (ask_of deed) (told_of t.0) t.1) }
+        ensures ran { IfOk result (λ t. Ran (state_of self.old) (state_of self.new) (turn cell (ask_of deed) (λ told. ends told)) (told_of t.0) (t.1 ∷ [])) }
         ensures contents { IfOk result (λ t. HasContents t.0) }
         ensures err { OnErr result (seen_of self.new ≡ seen_of self.old) }
     {
@@ -84,7 +84,7 @@ impl SoloDesk {
         call: &Call,
     ) -> Result<(Done, Place), Mem>
         requires served { Contains self.old.served key.now.site }
-        ensures ran { IfOk result (λ t. Ran (seen_of self.old) (seen_of self.new) (scripts.first_turn key.now call.now) (told_of t.0) (t.1 ∷ [])) }
+        ensures ran { IfOk result (λ t. Ran (state_of self.old) (state_of self.new) (scripts.first_turn key.now call.now) (told_of t.0) (t.1 ∷ [])) }
         ensures err { OnErr result (seen_of self.new ≡ seen_of self.old) }
     {
         let site = copy_of(&key.site)?;
@@ -105,7 +105,7 @@ impl SoloDesk {
     ) -> Result<(Outcome, Option<Place>), Mem>
         requires served { Contains self.old.served key.now.site }
         requires fits { FitsCall call load }
-        ensures ran { IfOk result (λ t. Ran (seen_of self.old) (seen_of self.new) (scripts.then_cell key.now call (given load) moment (told_of told)) (plain t.0.reply) (places_of t.1)) }
+        ensures ran { IfOk result (λ t. Ran (state_of self.old) (state_of self.new) (scripts.then_cell key.now call (given load) moment (told_of told)) (plain t.0.reply) (places_of t.1)) }
         ensures contents { IfOk result (λ t. AreContents t.0.reply t.0.blobs.items) }
         ensures err { OnErr result (seen_of self.new ≡ seen_of self.old) }
     {
@@ -126,7 +126,7 @@ impl SoloDesk {
     ) -> Result<(Outcome, Option<Place>), Mem>
         requires served { Contains self.old.served key.now.site }
         requires fits { FitsCall call load }
-        ensures ran { IfOk result (λ t. Ran (seen_of self.old) (seen_of self.new) (scripts.cell_turn key.now call (given load) moment) (plain t.0.reply) (places_of t.1)) }
+        ensures ran { IfOk result (λ t. Ran (state_of self.old) (state_of self.new) (scripts.cell_turn key.now call (given load) moment) (plain t.0.reply) (places_of t.1)) }
         ensures contents { IfOk result (λ t. AreContents t.0.reply t.0.blobs.items) }
         ensures err { OnErr result (seen_of self.new ≡ seen_of self.old) }
     {
@@ -138,8 +138,8 @@ impl SoloDesk {
     }
 }
 
-impl StillDesk for SoloDesk {
-    ghost seen = { seen_of };
+impl AnyDesk for SoloDesk {
+    ghost seen = { state_of };
 
     fn registry(
         &mut self,
@@ -175,6 +175,10 @@ impl StillDesk for SoloDesk {
     fn served(&self) -> &[SiteId] {
         self.served.as_slice()
     }
+}
+
+impl StillDesk for SoloDesk {
+    ghost is_still = { λ desk. refl };
 }
 
 // The number with one more, where an entry was added.

@@ -4,7 +4,7 @@ ghost use Rattle.ecr_cells.specs.Desks.{seen_of};
 use crate::SoloDesk;
 use crate::cells::copy_of;
 use ecr_blob_upload::Load;
-use ecr_desk::{Answer, StillDesk};
+use ecr_desk::{Answer, AnyDesk};
 use ecr_model::{
     Call, CellKey, Described, Limits, Mem, Moment, Mutability, Name, Page, Place, Refusal, Reply,
     RepoKey, SharedText, SiteCall, SiteId, SiteReply,

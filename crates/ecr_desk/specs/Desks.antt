@@ -1,41 +1,94 @@
--- What is seen of a still desk, and what a call on it leaves. Of this registry: docs/DECISIONS.md, "Scripts".
-use Rattle.std.specs.Prelude.{◌≡◌, ◌≤◌, ◌+◌, ℕ, List}
-use Rattle.ecr_model.specs.declared.call.Call.{Call}
+-- What is seen of a desk, and what a call on it leaves. Of this registry: docs/DECISIONS.md, "Scripts" and "Views".
+use Rattle.std.specs.Prelude.{◌≡◌, ◌≤◌, ◌+◌, ℕ, Bool, true, List, ◌++◌, length}
 use Rattle.ecr_model.specs.declared.journal.Place.{Place}
-use Rattle.ecr_model.specs.declared.names.RepoKey.{RepoKey}
-use Rattle.ecr_model.specs.Requests.{first_turn}
-use Rattle.ecr_model.specs.Scripts.{Realm, World, Script, Run, run, run_to}
+use Rattle.ecr_model.specs.Scripts.{Realm, Parts, World, Script, Run, count_changed, run, run_to}
+use Rattle.ecr_model.specs.Views.{Views, Terms, Made, journals_of, places_of, views_of, Visits, Halts}
 
--- the sites and limits, the journals of all cells, and how many entries were added since the desk was made
-pub record Seen : Type 0 where
+-- a desk as its caller sees it: the sites and limits, whether the caller is alone, its views of the cells, the parts of
+-- uploads in progress, which only a caller that is alone sees, and how many entries the caller has added
+pub record DeskState : Type 0 where
+  pub realm : Realm
+  pub alone : Bool
+  pub views : Views
+  pub parts : Parts
+  pub made : ℕ
+
+-- the terms of its caller
+abbrev pub terms_of : DeskState → Terms
+terms_of desk = record { realm = desk.realm; alone = desk.alone }
+
+-- ---- a caller that is alone
+
+-- the desk of a caller that is alone: the sites and limits, the journals of all cells with the parts of uploads, and how many
+-- entries were added since the desk was made
+pub record StillState : Type 0 where
   pub realm : Realm
   pub world : World
   pub made : ℕ
 
--- the result of a script on a desk
-abbrev pub run_on : {A : Type 0} → Seen → Script A → Run A
-run_on seen script = run seen.realm seen.world script
+-- the same as its caller sees it: it has seen every journal whole
+abbrev pub seen_by : StillState → DeskState
+seen_by desk = record {
+  realm = desk.realm;
+  alone = true;
+  views = views_of desk.world.journals;
+  parts = desk.world.parts;
+  made = desk.made;
+}
 
--- the number of entries that a script adds
-abbrev pub entries_of : {A : Type 0} → Seen → Script A → ℕ
-entries_of seen script = (run_on seen script).entries
+-- the journals that were seen of a desk
+abbrev pub still_of : DeskState → StillState
+still_of desk = record { realm = desk.realm; world = record { journals = journals_of desk.views; parts = desk.parts }; made = desk.made }
 
--- the number of entries that the first turn of a call on a repository adds: the name's, or none
-abbrev pub first_entries : Seen → RepoKey → Call → ℕ
-first_entries seen key call = entries_of seen (first_turn key call)
+-- the caller is alone, and has seen every journal whole
+abbrev pub IsStill : DeskState → Type 0
+IsStill desk = desk ≡ seen_by (still_of desk)
+
+-- the result of a script on a desk whose caller is alone
+abbrev pub run_on : {A : Type 0} → StillState → Script A → Run A
+run_on desk script = run desk.realm desk.world script
+
+-- ---- calls
 
 -- all turns of the script were made, and no other: they came to this answer, at these places
-pub record Ran {A : Type 0} (before after : Seen) (script : Script A) (answer : A) (places : List Place) : Type 0 where
+pub record Ran {A : Type 0} (before after : DeskState) (script : Script A) (answer : A) (places : List Place) : Type 0 where
+  pub realm_stays : after.realm ≡ before.realm
+  pub alone_stays : after.alone ≡ before.alone
+  pub turns : List Made
+  pub visited : Visits (terms_of before) before.views after.views script turns answer
+  pub placed : places ≡ places_of turns
+  pub counted : after.made ≡ before.made + count_changed places
+  pub parts_are : IsStill before → after.parts ≡ (run_on (still_of before) script).world.parts
+
+-- the first turns of the script were made, and no other
+pub record Stopped {A : Type 0} (before after : DeskState) (script : Script A) : Type 0 where
+  pub realm_stays : after.realm ≡ before.realm
+  pub alone_stays : after.alone ≡ before.alone
+  pub turns : List Made
+  pub halted : Halts (terms_of before) before.views after.views script turns
+  pub counted : after.made ≡ before.made + count_changed (places_of turns)
+  pub parts_are : IsStill before
+      → after.parts ≡ (run_to (count_changed (places_of turns)) before.realm (still_of before).world script).parts
+
+-- at most so many turns of the script were made, the first ones
+pub record StoppedWithin {A : Type 0} (most : ℕ) (before after : DeskState) (script : Script A) : Type 0 where
+  pub stopped : Stopped before after script
+  pub few : length stopped.turns ≤ most
+
+-- ---- calls of a caller that is alone
+
+-- all turns of the script were made one after another, and no other: they came to this answer, at these places
+pub record Runs {A : Type 0} (before after : StillState) (script : Script A) (answer : A) (places : List Place) : Type 0 where
   pub realm_stays : after.realm ≡ before.realm
   pub left : after.world ≡ (run_on before script).world
   pub counted : after.made ≡ before.made + (run_on before script).entries
   pub placed : places ≡ (run_on before script).places
   pub answered : answer ≡ (run_on before script).answer
 
--- the turns of the script were made up to so many entries, which are at most these, and no other
-pub record Stopped {A : Type 0} (before after : Seen) (script : Script A) (most : ℕ) : Type 0 where
-  pub entries : ℕ
-  pub within : entries ≤ most
+-- the turns at these places were made, the first ones of the script, and no other
+pub record RunsTo {A : Type 0} (before after : StillState) (script : Script A) (places : List Place) : Type 0 where
   pub realm_stays : after.realm ≡ before.realm
-  pub left : after.world ≡ run_to entries before.realm before.world script
-  pub counted : after.made ≡ before.made + entries
+  pub left : after.world ≡ run_to (count_changed places) before.realm before.world script
+  pub counted : after.made ≡ before.made + count_changed places
+  pub rest : List Place
+  pub placed : (run_on before script).places ≡ places ++ rest

@@ -11,7 +11,7 @@ use Rattle.ecr_model.specs.Limits.{standard}
 use Rattle.ecr_model.specs.Scripts.{World, fresh}
 use Rattle.ecr_model.specs.Sessions.{Outside, Serves}
 use Rattle.ecr_model.proofs.CommandLemmas.{IsSession-unique}
-use Rattle.ecr_desk.specs.Desks.{Seen}
+use Rattle.ecr_desk.specs.Desks.{StillState}
 use Rattle.ecr_session.proofs.StartLemmas.{Serves-nothing}
 
 pub SaysUsage-same_end : (before after : Outside) (end other : End) → end ≡ other → SaysUsage before after other → SaysUsage before after end
@@ -36,7 +36,7 @@ RunsSession-nothing sites fixed before cuts end none mem = record {
 }
 
 -- a session over a desk on which nothing is
-pub RunsSession-over : (sites : List SiteId) (fixed : Option ℕ) (seen : Seen) (before after : Outside) (moments : List ℕ) (places : List (List Place)) (cuts : List Cut) (last : World) (end : End)
+pub RunsSession-over : (sites : List SiteId) (fixed : Option ℕ) (seen : StillState) (before after : Outside) (moments : List ℕ) (places : List (List Place)) (cuts : List Cut) (last : World) (end : End)
     → seen ≡ record { realm = record { served = sites; limits = standard }; world = fresh; made = 0 }
     → Serves (record { realm = seen.realm; first = seen.world; fixed = fixed }) before after (record { moments = moments; places = places; cuts = cuts }) last end
     → RunsSession sites fixed before after cuts end
@@ -44,7 +44,7 @@ RunsSession-over sites fixed seen before after moments places cuts last end is s
   moments = moments;
   places = places;
   last = last;
-  serves = subst (λ (s : Seen). Serves (record { realm = s.realm; first = s.world; fixed = fixed }) before after (record { moments = moments; places = places; cuts = cuts }) last end) is serves;
+  serves = subst (λ (s : StillState). Serves (record { realm = s.realm; first = s.world; fixed = fixed }) before after (record { moments = moments; places = places; cuts = cuts }) last end) is serves;
 }
 
 -- the cuts and the end are what the session told
@@ -54,7 +54,7 @@ RunsSession-told sites fixed before after cuts told_cuts end told_end same_cuts 
     subst (λ e. RunsSession sites fixed before after cuts e) (sym same_end) (subst (λ cs. RunsSession sites fixed before after cs told_end) (sym same_cuts) runs)
 
 -- a fresh desk is seen as such
-pub fresh-seen : (seen : Seen) (sites items : List SiteId) (limits : Limits) → seen ≡ record { realm = record { served = items; limits = limits }; world = fresh; made = 0 }
+pub fresh-seen : (seen : StillState) (sites items : List SiteId) (limits : Limits) → seen ≡ record { realm = record { served = items; limits = limits }; world = fresh; made = 0 }
     → items ≡ sites → limits ≡ standard → seen ≡ record { realm = record { served = sites; limits = standard }; world = fresh; made = 0 }
 fresh-seen seen sites items limits is same_items same_limits =
     is ∙ ap (λ xs. record { realm = record { served = xs; limits = limits }; world = fresh; made = 0 }) same_items

@@ -1,5 +1,5 @@
 -- What a request's turns come to as an answer.
-use Rattle.std.proofs.Common.{◌≡◌, ◌-◌, ◌∙◌, inl, inr, ℕ, Bool, true, false, List, [], ◌++◌, Option, None, Some, Err, codes, refl, sym, ap, subst, append-nil, arith}
+use Rattle.std.proofs.Common.{◌≡◌, ◌≤◌, ◌+◌, ◌-◌, ◌∙◌, inl, inr, ℕ, Bool, true, false, List, [], ◌++◌, Option, None, Some, Err, codes, refl, sym, ap, subst, append-nil, append_assoc, arith}
 use Rattle.std.proofs.lemmas.Bool.{cond-true, cond-false}
 use Rattle.ecr_model.specs.declared.call.Call.{Call}
 use Rattle.ecr_model.specs.declared.call.Page.{Page}
@@ -21,19 +21,21 @@ use Rattle.ecr_model.specs.Actions.{Asked, cell, site, many, Reading, asks, refu
 use Rattle.ecr_model.specs.Contents.{named_by, AreContents}
 use Rattle.ecr_model.specs.Posed.{Posed, api, unrouted, base_of, is_json_call, posed_of, posed_script, posed_bytes, target_of}
 use Rattle.ecr_model.specs.Rendered.{json, refused}
-use Rattle.ecr_model.specs.Replies.{empty_reply}
+use Rattle.ecr_model.specs.Replies.{empty_reply, failed_reply, is_head}
 use Rattle.ecr_model.specs.Requests.{Decided, plain, asked_script, call_script, describe_script, of_site, page_script, site_script}
-use Rattle.ecr_model.specs.Scripts.{ends, run_to, count_changed}
-use Rattle.ecr_model.proofs.ScriptLemmas.{count_changed-run}
-use Rattle.ecr_model.specs.Sessions.{left_by, written}
+use Rattle.ecr_model.specs.Scripts.{ends, Realm, World, run_to, count_changed}
+use Rattle.ecr_model.specs.Views.{places_of}
+use Rattle.ecr_model.proofs.ScriptLemmas.{count_changed-append, count_changed-run}
+use Rattle.ecr_model.specs.Sessions.{left_by, named_to, outcome_of, script_of, written}
 use Rattle.ecr_model.specs.Stream.{closes}
 use Rattle.ecr_api.specs.Readings.{Reads}
 use Rattle.ecr_api.specs.declared.asked.ApiRefusal.{ApiRefusal}
 use Rattle.ecr_api.specs.declared.asked.ApiRefusal.TheVariants as api_refusals
-use Rattle.ecr_desk.specs.Desks.{Seen, run_on}
+use Rattle.ecr_desk.specs.Desks.{DeskState, StillState, still_of, IsStill, run_on, Runs, RunsTo}
+use Rattle.ecr_desk.proofs.DeskLemmas.{Ran-runs, Stopped-runs_to, first_places-le}
 use Rattle.ecr_http.specs.Replies.{reply_bytes}
 use Rattle.ecr_http.specs.declared.reply.HttpReply.{HttpReply}
-use Rattle.ecr_session.specs.Serving.{Answers, cut_of}
+use Rattle.ecr_session.specs.Serving.{Answers, AnswersAlone, IsAnswered, IsFailed, cut_of}
 use Rattle.ecr_session.specs.Turns.{IsReplied, RanWith, StoppedWith}
 use Rattle.ecr_session.proofs.TurnLemmas.{RanWith-ends, RanWith-then, StoppedWith-first, StoppedWith-then}
 
@@ -54,21 +56,21 @@ Reads-refused why refusal r is reads = subst (λ w. Reads (Err w) r) is reads
 
 -- ---- the reply to it
 
-pub IsReplied-unrouted : (seen : Seen) (posed : Posed) (moment : ℕ) (close : Bool) (reply : HttpReply) (sealed : Option Digest) (old : List Place) → posed ≡ unrouted
+pub IsReplied-unrouted : (seen : DeskState) (posed : Posed) (moment : ℕ) (close : Bool) (reply : HttpReply) (sealed : Option Digest) (old : List Place) → posed ≡ unrouted
     → reply_bytes reply ≡ empty_reply close (codes "404 Not Found") → sealed ≡ None → IsReplied seen seen posed moment close reply sealed old old
 unfolding posed_script posed_bytes
 IsReplied-unrouted seen posed moment close reply sealed old is bytes none =
     subst (λ p. IsReplied seen seen p moment close reply sealed old old) (sym is)
     (record { answer = plain (Refused UnknownOperation); ran = RanWith-ends seen (plain (Refused UnknownOperation)) old; contents = []; carries = refl; bytes = bytes; sealed_is = none })
 
-pub IsReplied-refused : (seen : Seen) (posed : Posed) (refusal : Refusal) (moment : ℕ) (close : Bool) (reply : HttpReply) (sealed : Option Digest) (old : List Place) → posed ≡ api (refuses refusal)
+pub IsReplied-refused : (seen : DeskState) (posed : Posed) (refusal : Refusal) (moment : ℕ) (close : Bool) (reply : HttpReply) (sealed : Option Digest) (old : List Place) → posed ≡ api (refuses refusal)
     → reply_bytes reply ≡ refused refusal close → sealed ≡ None → IsReplied seen seen posed moment close reply sealed old old
 unfolding posed_script posed_bytes
 IsReplied-refused seen posed refusal moment close reply sealed old is bytes none =
     subst (λ p. IsReplied seen seen p moment close reply sealed old old) (sym is)
     (record { answer = plain (Refused refusal); ran = RanWith-ends seen (plain (Refused refusal)) old; contents = []; carries = refl; bytes = bytes; sealed_is = none })
 
-pub IsReplied-asked : (before after : Seen) (asked : Asked) (moment : ℕ) (close : Bool) (answer : Decided) (contents : List (List ℕ)) (reply : HttpReply) (old now : List Place)
+pub IsReplied-asked : (before after : DeskState) (asked : Asked) (moment : ℕ) (close : Bool) (answer : Decided) (contents : List (List ℕ)) (reply : HttpReply) (old now : List Place)
     → RanWith before after (asked_script asked moment) answer old now → AreContents answer.reply contents
     → reply_bytes reply ≡ json asked answer.reply contents close
     → IsReplied before after (api (asks asked)) moment close reply answer.sealed old now
@@ -76,18 +78,18 @@ unfolding posed_script posed_bytes
 IsReplied-asked before after asked moment close answer contents reply old now ran carries bytes =
     record { answer = answer; ran = ran; contents = contents; carries = carries; bytes = bytes; sealed_is = refl }
 
-pub StoppedWith-asked : (before after : Seen) (asked : Asked) (moment : ℕ) (old now : List Place) → StoppedWith before after (asked_script asked moment) old now
+pub StoppedWith-asked : (before after : DeskState) (asked : Asked) (moment : ℕ) (old now : List Place) → StoppedWith before after (asked_script asked moment) old now
     → StoppedWith before after (posed_script (api (asks asked)) moment) old now
 unfolding posed_script
 StoppedWith-asked before after asked moment old now stopped = stopped
 
 -- the same of values that are known by other words
-pub IsReplied-same : (before after : Seen) (posed other : Posed) (moment : ℕ) (close shut : Bool) (reply : HttpReply) (sealed : Option Digest) (old now : List Place) → other ≡ posed → close ≡ shut
+pub IsReplied-same : (before after : DeskState) (posed other : Posed) (moment : ℕ) (close shut : Bool) (reply : HttpReply) (sealed : Option Digest) (old now : List Place) → other ≡ posed → close ≡ shut
     → IsReplied before after posed moment close reply sealed old now → IsReplied before after other moment shut reply sealed old now
 IsReplied-same before after posed other moment close shut reply sealed old now same closing r =
     subst (λ b. IsReplied before after other moment b reply sealed old now) closing (subst (λ p. IsReplied before after p moment close reply sealed old now) (sym same) r)
 
-pub StoppedWith-same : (before after : Seen) (posed other : Posed) (moment : ℕ) (old now : List Place) → other ≡ posed
+pub StoppedWith-same : (before after : DeskState) (posed other : Posed) (moment : ℕ) (old now : List Place) → other ≡ posed
     → StoppedWith before after (posed_script posed moment) old now → StoppedWith before after (posed_script other moment) old now
 StoppedWith-same before after posed other moment old now same stopped = subst (λ p. StoppedWith before after (posed_script p moment) old now) (sym same) stopped
 
@@ -98,27 +100,27 @@ Decided-plain reply other sealed same none = cc
 
 -- ---- a call on a site, and what follows of it
 
-pub RanWith-page : (before mid after : Seen) (s : SiteId) (page : Page) (moment : ℕ) (told : SiteReply) (answer : Reply) (old more now : List Place)
+pub RanWith-page : (before mid after : DeskState) (s : SiteId) (page : Page) (moment : ℕ) (told : SiteReply) (answer : Reply) (old more now : List Place)
     → RanWith before mid (site_script s (site_calls.Names page)) told old more → RanWith mid after (page_script s moment page told) answer more now
     → RanWith before after (describe_script s None page moment) answer old now
 unfolding describe_script
 RanWith-page before mid after s page moment told answer old more now one other =
     RanWith-then before mid after (site_script s (site_calls.Names page)) (λ reply. page_script s moment page reply) told answer old more now one other
 
-pub StoppedWith-page : (before mid after : Seen) (s : SiteId) (page : Page) (moment : ℕ) (told : SiteReply) (old more now : List Place)
+pub StoppedWith-page : (before mid after : DeskState) (s : SiteId) (page : Page) (moment : ℕ) (told : SiteReply) (old more now : List Place)
     → RanWith before mid (site_script s (site_calls.Names page)) told old more → StoppedWith mid after (page_script s moment page told) more now
     → StoppedWith before after (describe_script s None page moment) old now
 unfolding describe_script
 StoppedWith-page before mid after s page moment told old more now one other =
     StoppedWith-then before mid after (site_script s (site_calls.Names page)) (λ reply. page_script s moment page reply) told old more now one other
 
-pub StoppedWith-no_page : (before after : Seen) (s : SiteId) (page : Page) (moment : ℕ) (old now : List Place)
+pub StoppedWith-no_page : (before after : DeskState) (s : SiteId) (page : Page) (moment : ℕ) (old now : List Place)
     → StoppedWith before after (site_script s (site_calls.Names page)) old now → StoppedWith before after (describe_script s None page moment) old now
 unfolding describe_script
 StoppedWith-no_page before after s page moment old now stopped =
     StoppedWith-first before after (site_script s (site_calls.Names page)) (λ reply. page_script s moment page reply) old now stopped
 
-pub RanWith-site : (before after : Seen) (asked : Asked) (s : SiteId) (c : SiteCall) (moment : ℕ) (told : SiteReply) (answer : Decided) (old now : List Place) → asked ≡ site s c → answer ≡ plain (of_site told)
+pub RanWith-site : (before after : DeskState) (asked : Asked) (s : SiteId) (c : SiteCall) (moment : ℕ) (told : SiteReply) (answer : Decided) (old now : List Place) → asked ≡ site s c → answer ≡ plain (of_site told)
     → RanWith before after (site_script s c) told old now → RanWith before after (asked_script asked moment) answer old now
 unfolding asked_script
 RanWith-site before after asked s c moment told answer old now what is one =
@@ -126,7 +128,7 @@ RanWith-site before after asked s c moment told answer old now what is one =
     (subst (λ a. RanWith before after (asked_script (site s c) moment) a old now) (sym is)
     (RanWith-then before after after (site_script s c) (λ reply. ends (plain (of_site reply))) told (plain (of_site told)) old now now one (RanWith-ends after (plain (of_site told)) now)))
 
-pub StoppedWith-site : (before after : Seen) (asked : Asked) (s : SiteId) (c : SiteCall) (moment : ℕ) (old now : List Place) → asked ≡ site s c
+pub StoppedWith-site : (before after : DeskState) (asked : Asked) (s : SiteId) (c : SiteCall) (moment : ℕ) (old now : List Place) → asked ≡ site s c
     → StoppedWith before after (site_script s c) old now → StoppedWith before after (asked_script asked moment) old now
 unfolding asked_script
 StoppedWith-site before after asked s c moment old now what stopped =
@@ -135,7 +137,7 @@ StoppedWith-site before after asked s c moment old now what stopped =
 
 -- ---- a call on a repository, and DescribeRepositories
 
-pub RanWith-cell : (before after : Seen) (asked : Asked) (key : RepoKey) (c other : Call) (given same_given : Option (List ℕ)) (moment : ℕ) (answer : Decided) (old now : List Place)
+pub RanWith-cell : (before after : DeskState) (asked : Asked) (key : RepoKey) (c other : Call) (given same_given : Option (List ℕ)) (moment : ℕ) (answer : Decided) (old now : List Place)
     → asked ≡ cell key c given → other ≡ c → same_given ≡ given
     → RanWith before after (call_script key other same_given moment) answer old now → RanWith before after (asked_script asked moment) answer old now
 unfolding asked_script
@@ -144,7 +146,7 @@ RanWith-cell before after asked key c other given same_given moment answer old n
     (subst (λ g. RanWith before after (call_script key c g moment) answer old now) content
     (subst (λ d. RanWith before after (call_script key d same_given moment) answer old now) same one))
 
-pub StoppedWith-cell : (before after : Seen) (asked : Asked) (key : RepoKey) (c other : Call) (given same_given : Option (List ℕ)) (moment : ℕ) (old now : List Place)
+pub StoppedWith-cell : (before after : DeskState) (asked : Asked) (key : RepoKey) (c other : Call) (given same_given : Option (List ℕ)) (moment : ℕ) (old now : List Place)
     → asked ≡ cell key c given → other ≡ c → same_given ≡ given
     → StoppedWith before after (call_script key other same_given moment) old now → StoppedWith before after (asked_script asked moment) old now
 unfolding asked_script
@@ -153,7 +155,7 @@ StoppedWith-cell before after asked key c other given same_given moment old now 
     (subst (λ g. StoppedWith before after (call_script key c g moment) old now) content
     (subst (λ d. StoppedWith before after (call_script key d same_given moment) old now) same one))
 
-pub RanWith-many : (before after : Seen) (asked : Asked) (s : SiteId) (names : Option (List Name)) (page : Page) (moment : ℕ) (reply : Reply) (answer : Decided) (old now : List Place)
+pub RanWith-many : (before after : DeskState) (asked : Asked) (s : SiteId) (names : Option (List Name)) (page : Page) (moment : ℕ) (reply : Reply) (answer : Decided) (old now : List Place)
     → asked ≡ many s names page → answer ≡ plain reply
     → RanWith before after (describe_script s names page moment) reply old now → RanWith before after (asked_script asked moment) answer old now
 unfolding asked_script
@@ -162,7 +164,7 @@ RanWith-many before after asked s names page moment reply answer old now what is
     (subst (λ a. RanWith before after (asked_script (many s names page) moment) a old now) (sym is)
     (RanWith-then before after after (describe_script s names page moment) (λ r. ends (plain r)) reply (plain reply) old now now one (RanWith-ends after (plain reply) now)))
 
-pub StoppedWith-many : (before after : Seen) (asked : Asked) (s : SiteId) (names : Option (List Name)) (page : Page) (moment : ℕ) (old now : List Place) → asked ≡ many s names page
+pub StoppedWith-many : (before after : DeskState) (asked : Asked) (s : SiteId) (names : Option (List Name)) (page : Page) (moment : ℕ) (old now : List Place) → asked ≡ many s names page
     → StoppedWith before after (describe_script s names page moment) old now → StoppedWith before after (asked_script asked moment) old now
 unfolding asked_script
 StoppedWith-many before after asked s names page moment old now what one =
@@ -171,55 +173,136 @@ StoppedWith-many before after asked s names page moment old now what one =
 
 -- ---- the answer to a request
 
-not_served : true ≡ false → ⊥
-not_served e = absurd (let no : true ≡ false = e in cc)
+-- the number of entries that a request added
+entries_of : (first last before after places : ℕ) → first ≡ before → last ≡ after → after ≡ before + places → last - first ≡ places
+entries_of first last before after places one two counted = omega (arith, one, two, counted)
 
-pub Answers-replied : (before after : Seen) (moment : ℕ) (request : Request) (reply : HttpReply) (sealed : Option Digest) (old places : List Place) (first last : ℕ) (cut : Cut) → cut ≡ cut_of (last - first) false sealed → old ≡ [] → first ≡ before.made → last ≡ after.made
+pub Answers-replied : (before after : DeskState) (moment : ℕ) (request : Request) (reply : HttpReply) (sealed : Option Digest) (old places : List Place) (first last : ℕ) (cut : Cut) → cut ≡ cut_of (last - first) false sealed → old ≡ [] → first ≡ before.made → last ≡ after.made
     → IsReplied before after (posed_of before.realm.served request) moment (closes request) reply sealed old places
     → Answers before after moment request (Some reply) places cut
-unfolding written left_by
 Answers-replied before after moment request reply sealed old places first last cut is_cut empty first_is last_is r =
-    let posed = posed_of before.realm.served request in
-    let ran = r.ran.ran in
-    let script = posed_script posed moment in
-    let told : places ≡ (run_on before script).places = r.ran.added ∙ ap (λ l. l ++ r.ran.places) empty ∙ ran.placed in
-    let count : last - first ≡ (run_on before script).entries = omega (arith, ran.counted, first_is, last_is) in
-    let digest : sealed ≡ (run_on before script).answer.sealed = r.sealed_is ∙ ap (λ (d : Decided). d.sealed) ran.answered in
-    subst (λ k. Answers before after moment request (Some reply) places k) (sym is_cut) (record {
+    let told : places ≡ r.ran.places = r.ran.added ∙ ap (λ l. l ++ r.ran.places) empty in
+    let count : last - first ≡ count_changed r.ran.places = entries_of first last before.made after.made (count_changed r.ran.places) first_is last_is r.ran.ran.counted in
+    subst (λ k. Answers before after moment request (Some reply) places k) (sym is_cut)
+    (subst (λ ps. Answers before after moment request (Some reply) ps (cut_of (last - first) false sealed)) (sym told) (inl (record {
+      answer = r.answer;
+      ran = r.ran.ran;
       contents = r.contents;
-      carries = r.carries ∙ ap (λ (d : Decided). named_by d.reply) ran.answered;
-      bytes = r.bytes ∙ ap (λ (d : Decided). posed_bytes posed (closes request) d.reply r.contents) ran.answered;
-      realm_stays = ran.realm_stays;
-      leaves = ran.left;
-      counted = omega (arith, ran.counted, first_is, last_is);
-      counts = record { at_most = omega (arith, count); all = λ _. count; sealed = λ _. digest; no_other = inr digest };
-      placed = record {
-        all = λ _. told;
-        first = ([], sym told ∙ sym (append-nil places));
-        changed = omega (arith, ap count_changed told, count_changed-run before.realm before.world script, count);
-      };
-    })
+      carries = r.carries;
+      bytes = r.bytes;
+      entries = count;
+      served = refl;
+      sealed_is = r.sealed_is;
+    })))
 
-pub Answers-failed : (before after : Seen) (moment : ℕ) (request : Request) (old places : List Place) (first last : ℕ) (cut : Cut) → cut ≡ cut_of (last - first) true None → old ≡ [] → first ≡ before.made → last ≡ after.made
+pub Answers-failed : (before after : DeskState) (moment : ℕ) (request : Request) (old places : List Place) (first last : ℕ) (cut : Cut) → cut ≡ cut_of (last - first) true None → old ≡ [] → first ≡ before.made → last ≡ after.made
     → StoppedWith before after (posed_script (posed_of before.realm.served request) moment) old places
     → Answers before after moment request None places cut
-unfolding written left_by
 Answers-failed before after moment request old places first last cut is_cut empty first_is last_is s =
-    let posed = posed_of before.realm.served request in
-    let stopped = s.stopped in
-    let count : last - first ≡ stopped.entries = omega (arith, stopped.counted, first_is, last_is) in
     let told : places ≡ s.places = s.added ∙ ap (λ l. l ++ s.places) empty in
-    subst (λ k. Answers before after moment request None places k) (sym is_cut) (record {
-      contents = [];
-      carries = refl;
+    let turns : List Place = places_of s.stopped.turns in
+    subst (λ k. Answers before after moment request None places k) (sym is_cut) (inr (record {
+      stopped = s.stopped;
+      rest = s.rest;
+      parts = s.parts ∙ ap (λ l. l ++ s.rest) (sym told);
       bytes = refl;
-      realm_stays = stopped.realm_stays;
-      leaves = stopped.left ∙ ap (λ n. run_to n before.realm before.world (posed_script posed moment)) (sym count);
-      counted = omega (arith, stopped.counted, first_is, last_is);
-      counts = record { at_most = omega (arith, count, stopped.within); all = λ e. absurd (not_served e); sealed = λ e. absurd (not_served e); no_other = inl refl };
+      entries = entries_of first last before.made after.made (count_changed turns) first_is last_is s.stopped.counted;
+      failed = refl;
+      none_sealed = refl;
+    }))
+
+-- ---- of a caller that is alone
+
+-- a request that was served didn't fail
+not_failed : (b : Bool) → b ≡ true → b ≡ false → ⊥
+not_failed b is other = absurd (let no : true ≡ false = sym is ∙ other in cc)
+
+-- what is written, and what is left, where it didn't fail
+written-served : (realm : Realm) (world : World) (moment : ℕ) (cut : Cut) (request : Request) (contents : List (List ℕ)) → cut.failed ≡ false
+    → written realm world moment cut request contents ≡ posed_bytes (posed_of realm.served request) (closes request) (outcome_of realm world moment request).answer.reply contents
+unfolding written
+written-served realm world moment cut request contents served = cond-false cut.failed _ _ served
+
+named_to-served : (realm : Realm) (world : World) (moment : ℕ) (cut : Cut) (request : Request) → cut.failed ≡ false
+    → named_to realm world moment cut request ≡ named_by (outcome_of realm world moment request).answer.reply
+named_to-served realm world moment cut request served = cond-false cut.failed _ _ served
+
+left_by-served : (realm : Realm) (world : World) (moment : ℕ) (cut : Cut) (request : Request) → cut.failed ≡ false
+    → left_by realm world moment cut request ≡ (outcome_of realm world moment request).world
+unfolding left_by
+left_by-served realm world moment cut request served = cond-false cut.failed _ _ served
+
+-- where it did
+written-failed : (realm : Realm) (world : World) (moment : ℕ) (cut : Cut) (request : Request) (contents : List (List ℕ)) → cut.failed ≡ true
+    → written realm world moment cut request contents ≡ failed_reply (is_head request) (closes request)
+unfolding written
+written-failed realm world moment cut request contents failed = cond-true cut.failed _ _ failed
+
+named_to-failed : (realm : Realm) (world : World) (moment : ℕ) (cut : Cut) (request : Request) → cut.failed ≡ true
+    → named_to realm world moment cut request ≡ []
+named_to-failed realm world moment cut request failed = cond-true cut.failed _ _ failed
+
+left_by-failed : (realm : Realm) (world : World) (moment : ℕ) (cut : Cut) (request : Request) → cut.failed ≡ true
+    → left_by realm world moment cut request ≡ run_to cut.entries realm world (script_of realm moment request)
+unfolding left_by
+left_by-failed realm world moment cut request failed = cond-true cut.failed _ _ failed
+
+AnswersAlone-answered : (before after : DeskState) (moment : ℕ) (request : Request) (reply : Option HttpReply) (places : List Place) (cut : Cut)
+    → IsStill before → IsAnswered before after moment request reply places cut
+    → AnswersAlone (still_of before) (still_of after) moment request reply places cut
+AnswersAlone-answered before after moment request reply places cut still a =
+    let desk : StillState = still_of before in
+    let script = script_of before.realm moment request in
+    let posed = posed_of before.realm.served request in
+    let runs : Runs desk (still_of after) script a.answer places = (Ran-runs before after script a.answer places still a.ran).runs in
+    let counted : count_changed places ≡ (run_on desk script).entries = ap count_changed runs.placed ∙ count_changed-run desk.realm desk.world script in
+    let digest : cut.sealed ≡ (run_on desk script).answer.sealed = a.sealed_is ∙ ap (λ (d : Decided). d.sealed) runs.answered in
+    record {
+      contents = a.contents;
+      carries = a.carries ∙ ap (λ (d : Decided). named_by d.reply) runs.answered
+          ∙ sym (named_to-served desk.realm desk.world moment cut request a.served);
+      bytes = a.bytes
+          ∙ ap (λ (d : Decided). posed_bytes posed (closes request) d.reply a.contents) runs.answered
+          ∙ sym (written-served desk.realm desk.world moment cut request a.contents a.served);
+      realm_stays = runs.realm_stays;
+      leaves = runs.left ∙ sym (left_by-served desk.realm desk.world moment cut request a.served);
+      counted = omega (arith, runs.counted, counted, a.entries);
+      counts = record { at_most = omega (arith, a.entries, counted); all = λ _. a.entries ∙ counted; sealed = λ _. digest; no_other = inr digest };
       placed = record {
-        all = λ e. absurd (not_served e);
-        first = (s.rest, s.parts ∙ ap (λ l. l ++ s.rest) (sym told));
-        changed = omega (arith, ap count_changed told, s.changed, count);
+        all = λ _. runs.placed;
+        first = ([], sym runs.placed ∙ sym (append-nil places));
+        changed = omega (arith, a.entries);
       };
-    })
+    }
+
+AnswersAlone-failed : (before after : DeskState) (moment : ℕ) (request : Request) (reply : Option HttpReply) (places : List Place) (cut : Cut)
+    → IsStill before → IsFailed before after moment request reply places cut
+    → AnswersAlone (still_of before) (still_of after) moment request reply places cut
+AnswersAlone-failed before after moment request reply places cut still f =
+    let desk : StillState = still_of before in
+    let script = script_of before.realm moment request in
+    let turns : List Place = places_of f.stopped.turns in
+    let runs : RunsTo desk (still_of after) script turns = Stopped-runs_to before after script still f.stopped in
+    let within : count_changed turns ≤ (run_on desk script).entries = first_places-le desk script turns runs.rest runs.placed in
+    record {
+      contents = [];
+      carries = sym (named_to-failed desk.realm desk.world moment cut request f.failed);
+      bytes = f.bytes ∙ sym (written-failed desk.realm desk.world moment cut request [] f.failed);
+      realm_stays = runs.realm_stays;
+      leaves = runs.left ∙ ap (λ n. run_to n desk.realm desk.world script) (sym f.entries)
+          ∙ sym (left_by-failed desk.realm desk.world moment cut request f.failed);
+      counted = omega (arith, runs.counted, f.entries);
+      counts = record { at_most = omega (arith, f.entries, within); all = λ e. absurd (not_failed cut.failed f.failed e); sealed = λ e. absurd (not_failed cut.failed f.failed e); no_other = inl f.none_sealed };
+      placed = record {
+        all = λ e. absurd (not_failed cut.failed f.failed e);
+        first = (f.rest ++ runs.rest, runs.placed ∙ ap (λ ps. ps ++ runs.rest) f.parts ∙ append_assoc places f.rest runs.rest);
+        changed = omega (arith, f.entries, ap count_changed f.parts, count_changed-append places f.rest);
+      };
+    }
+
+-- the answers of a desk whose caller is alone are those of runs
+pub Answers-alone : (before after : DeskState) (moment : ℕ) (request : Request) (reply : Option HttpReply) (places : List Place) (cut : Cut)
+    → IsStill before → Answers before after moment request reply places cut
+    → AnswersAlone (still_of before) (still_of after) moment request reply places cut
+Answers-alone before after moment request reply places cut still (inl a) = AnswersAlone-answered before after moment request reply places cut still a
+Answers-alone before after moment request reply places cut still (inr f) = AnswersAlone-failed before after moment request reply places cut still f

@@ -14,19 +14,19 @@ use Rattle.ecr_model.specs.Sessions.{Account, Outside, Setting, Exchange, Standi
 use Rattle.ecr_model.specs.Stream.{Point, start, closes, grown, past, Begins}
 use Rattle.ecr_model.proofs.SessionLemmas.{Chain-more, sent_to-more}
 use Rattle.ecr_model.proofs.StreamLemmas.{Begins-more}
-use Rattle.ecr_desk.specs.Desks.{Seen}
+use Rattle.ecr_desk.specs.Desks.{StillState}
 use Rattle.ecr_http.specs.Reading.{Nexts}
 use Rattle.ecr_http.specs.Sends.{Sends}
 use Rattle.ecr_http.specs.declared.events.Event.TheVariants as events
 use Rattle.ecr_http.specs.declared.reply.HttpReply.{HttpReply}
 use Rattle.ecr_http.specs.declared.write.Sent.{Sent}
 use Rattle.ecr_http.specs.declared.write.Sent.TheVariants.{Done, WriteFault}
-use Rattle.ecr_session.specs.Serving.{SoFar, HasCome, GoesOn, Answered, Answers, ServesRequest, account_in, reply_bytes, standing_of, with_exchange}
+use Rattle.ecr_session.specs.Serving.{SoFar, HasCome, GoesOn, Answered, AnswersAlone, ServesRequest, account_in, reply_bytes, standing_of, with_exchange}
 use Rattle.ecr_session.specs.declared.session.Session.{Session}
 use Rattle.ecr_session.proofs.EndLemmas.{begins_grown, within_grown, Completed-closed}
 
 -- room for more changes nothing
-pub HasCome-room : (set : Setting) (before mid : Outside) (old now : Session) (seen : Seen) → account_in now ≡ account_in old → now.reader ≡ old.reader
+pub HasCome-room : (set : Setting) (before mid : Outside) (old now : Session) (seen : StillState) → account_in now ≡ account_in old → now.reader ≡ old.reader
     → HasCome set before mid old seen → HasCome set before mid now seen
 HasCome-room set before mid old now seen account reader s = record {
   realm_stays = s.realm_stays;
@@ -48,7 +48,7 @@ requests_of-more : (es : List Exchange) (e : Exchange) (request : Request) → e
 requests_of-more es e request is = map-append (λ (x : Exchange). x.request) es (e ∷ []) ∙ ap (λ r. requests_of es ++ r ∷ []) is
 
 -- the step of an exchange, between standings of the setting
-step_in : (set : Setting) (mid between after : Outside) (seen later : Seen) (e : Exchange) → seen.realm ≡ set.realm → between.told ≡ mid.told
+step_in : (set : Setting) (mid between after : Outside) (seen later : StillState) (e : Exchange) → seen.realm ≡ set.realm → between.told ≡ mid.told
     → IsServed (standing_of set.fixed between seen) e (standing_of set.fixed after later)
     → IsServed (stands set seen.world mid.told) e (stands set later.world after.told)
 step_in set mid between after seen later e realm told v =
@@ -61,7 +61,7 @@ step_in set mid between after seen later e realm told v =
     (subst (λ (s : Standing). IsServed s e (standing_of set.fixed after later)) first v)
 
 -- one request more was serviced
-serviced_more : (set : Setting) (before mid between after : Outside) (es : List Exchange) (e : Exchange) (account : Account) (seen later : Seen)
+serviced_more : (set : Setting) (before mid between after : Outside) (es : List Exchange) (e : Exchange) (account : Account) (seen later : StillState)
     → seen.realm ≡ set.realm → between.told ≡ mid.told → Serviced set before mid es account seen.world
     → IsServed (standing_of set.fixed between seen) e (standing_of set.fixed after later)
     → Serviced set before after (es ++ e ∷ []) (with_exchange account e) later.world
@@ -85,9 +85,9 @@ pub account_in-pushed : (old now : Session) (e : Exchange)
 account_in-pushed old now e moments places cuts = cc
 
 -- an answer, with its moment and its reply as bytes, is an exchange
-pub Answered-by : (fixed : Option ℕ) (request : Request) (before after : Outside) (old now : Session) (seen later : Seen) (sent : Sent)
+pub Answered-by : (fixed : Option ℕ) (request : Request) (before after : Outside) (old now : Session) (seen later : StillState) (sent : Sent)
     (moment : ℕ) (reply : Option HttpReply) (places : List Place) (cut : Cut)
-    → IsTime fixed before.told after.told moment → Answers seen later moment request reply places cut
+    → IsTime fixed before.told after.told moment → AnswersAlone seen later moment request reply places cut
     → now.moments.items ≡ old.moments.items ++ moment ∷ [] → map (λ v. v.items) now.places.items ≡ map (λ v. v.items) old.places.items ++ places ∷ []
     → now.cuts.items ≡ old.cuts.items ++ cut ∷ []
     → now.reader ≡ old.reader → after.left ≡ before.left
@@ -114,7 +114,7 @@ Answered-by fixed request before after old now seen later sent moment reply plac
 }
 
 -- all of the reply was sent
-HasCome-serviced : (set : Setting) (before mid between after : Outside) (point : Point) (old now : Session) (seen later : Seen) (request : Request)
+HasCome-serviced : (set : Setting) (before mid between after : Outside) (point : Point) (old now : Session) (seen later : StillState) (request : Request)
     → seen.realm ≡ set.realm → SoFar set before mid point (account_in old) seen.world
     → point.closed ≡ false → Nexts mid.left mid.held point between.left between.held old.reader (events.Request request) → between.told ≡ mid.told
     → Answered set.fixed request between old seen after now later Done
@@ -147,7 +147,7 @@ HasCome-serviced set before mid between after point old now seen later request r
     }
 
 -- a part of the reply was sent
-CutOff-serviced : (set : Setting) (before mid between after : Outside) (point : Point) (old now : Session) (seen later : Seen) (request : Request)
+CutOff-serviced : (set : Setting) (before mid between after : Outside) (point : Point) (old now : Session) (seen later : StillState) (request : Request)
     → seen.realm ≡ set.realm → SoFar set before mid point (account_in old) seen.world
     → point.closed ≡ false → Nexts mid.left mid.held point between.left between.held old.reader (events.Request request) → between.told ≡ mid.told
     → Answered set.fixed request between old seen after now later WriteFault
@@ -176,7 +176,7 @@ CutOff-serviced set before mid between after point old now seen later request re
       sent = Appends-trans before.held between.held after.held (sent_to es ++ due) sends.0 (Appends-trans before.held mid.held between.held (sent_to es) due s.sent n.gives.3) sends.3;
     })
 
-pub GoesOn-request : (set : Setting) (before mid between after : Outside) (point : Point) (old now : Session) (seen later : Seen) (request : Request) (end : Option End)
+pub GoesOn-request : (set : Setting) (before mid between after : Outside) (point : Point) (old now : Session) (seen later : StillState) (request : Request) (end : Option End)
     → seen.realm ≡ set.realm → SoFar set before mid point (account_in old) seen.world
     → point.closed ≡ false → Nexts mid.left mid.held point between.left between.held old.reader (events.Request request) → between.told ≡ mid.told
     → ServesRequest set.fixed request between old seen after now later end

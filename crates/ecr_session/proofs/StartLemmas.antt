@@ -7,7 +7,7 @@ use Rattle.ecr_model.specs.declared.outcome.End.{End}
 use Rattle.ecr_model.specs.declared.outcome.End.TheVariants as ends
 use Rattle.ecr_model.specs.Sessions.{Account, Outside, Setting, Answered, Serviced, Serves, max_read}
 use Rattle.ecr_model.specs.Stream.{start}
-use Rattle.ecr_desk.specs.Desks.{Seen}
+use Rattle.ecr_desk.specs.Desks.{StillState}
 use Rattle.ecr_session.specs.Serving.{SoFar, HasCome, IsFresh, account_in}
 use Rattle.ecr_session.specs.declared.session.Session.{Session}
 
@@ -37,7 +37,7 @@ account-fresh session fresh =
     Account-nil session.moments.items (map (λ v. v.items) session.places.items) session.cuts.items fresh.moments (ap (map (λ v. v.items)) fresh.places) fresh.cuts
 
 -- a session begins where nothing was read
-pub HasCome-start : (set : Setting) (before : Outside) (session : Session) (seen : Seen) → IsFresh session
+pub HasCome-start : (set : Setting) (before : Outside) (session : Session) (seen : StillState) → IsFresh session
     → seen.realm ≡ set.realm → seen.world ≡ set.first → HasCome set before before session seen
 unfolding no_account
 HasCome-start set before session seen fresh realm first = record {

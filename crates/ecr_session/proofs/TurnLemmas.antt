@@ -13,105 +13,67 @@ use Rattle.ecr_model.specs.declared.reply.Described.{Described as Row}
 use Rattle.ecr_model.specs.declared.reply.Reply.{Reply}
 use Rattle.ecr_model.specs.declared.reply.Reply.TheVariants.{Described, Refused}
 use Rattle.ecr_model.specs.Requests.{Decided, call_script, one_script, rows_in, is_refused, named_script, listed_script}
-use Rattle.ecr_model.specs.ScriptLaws.{RunsThen}
-use Rattle.ecr_model.specs.Scripts.{Realm, Script, ends, then_do, run, count_changed}
-use Rattle.ecr_model.proofs.ScriptLemmas.{run-then_do, run_to-none, count_changed-append, count_changed-run}
-use Rattle.ecr_desk.specs.Desks.{Seen, Ran, Stopped, run_on, entries_of, first_entries}
-use Rattle.ecr_desk.proofs.DeskLemmas.{Ran-ends, Ran-then, Stopped-first, Stopped-then, Stopped-whole, first_entries-le}
+use Rattle.ecr_model.specs.Scripts.{Realm, Script, ends, then_do}
+use Rattle.ecr_model.specs.Views.{places_of}
+use Rattle.ecr_model.proofs.ViewLemmas.{places_of-append}
+use Rattle.ecr_desk.specs.Desks.{DeskState, Ran, Stopped, StoppedWithin}
+use Rattle.ecr_desk.proofs.DeskLemmas.{Ran-ends, Ran-then, Stopped-first, Stopped-none, Stopped-then, Stopped-whole}
 use Rattle.ecr_session.specs.Turns.{RanWith, StoppedWith, LeadsTo, IsDescribed, refusal_in}
 
 -- ---- one script
 
 -- a script without a turn
-pub RanWith-ends : {A : Type 0} (seen : Seen) (answer : A) (old : List Place) → RanWith seen seen (ends answer) answer old old
+pub RanWith-ends : {A : Type 0} (seen : DeskState) (answer : A) (old : List Place) → RanWith seen seen (ends answer) answer old old
 RanWith-ends seen answer old = record { places = []; added = sym (append-nil old); ran = Ran-ends seen answer }
 
 -- no turn was made
-pub StoppedWith-nothing : {A : Type 0} (seen : Seen) (script : Script A) (old now : List Place) → now ≡ old → StoppedWith seen seen script old now
+pub StoppedWith-nothing : {A : Type 0} (seen : DeskState) (script : Script A) (old now : List Place) → now ≡ old → StoppedWith seen seen script old now
+unfolding Stopped-none
 StoppedWith-nothing seen script old now same = record {
   places = [];
-  rest = (run_on seen script).places;
+  rest = [];
   added = same ∙ sym (append-nil old);
+  stopped = Stopped-none seen seen script refl;
   parts = refl;
-  stopped = record {
-    entries = 0;
-    within = omega arith;
-    realm_stays = refl;
-    left = sym (run_to-none seen.realm seen.world script);
-    counted = omega arith;
-  };
-  changed = omega arith;
 }
 
--- nothing was seen to change
-pub StoppedWith-unchanged : {A : Type 0} (before after : Seen) (script : Script A) (old now : List Place) → after ≡ before → now ≡ old → StoppedWith before after script old now
-StoppedWith-unchanged before after script old now same places =
-    subst (λ (s : Seen). StoppedWith before s script old now) (sym same) (StoppedWith-nothing before script old now places)
-
 -- turns were made of which no place is told
-pub StoppedWith-untold : {A : Type 0} (before after : Seen) (script : Script A) (old now : List Place) → now ≡ old → Stopped before after script (entries_of before script)
+pub StoppedWith-untold : {A : Type 0} (before after : DeskState) (script : Script A) (old now : List Place) → now ≡ old → Stopped before after script
     → StoppedWith before after script old now
 StoppedWith-untold before after script old now same stopped = record {
   places = [];
-  rest = (run_on before script).places;
+  rest = places_of stopped.turns;
   added = same ∙ sym (append-nil old);
-  parts = refl;
   stopped = stopped;
-  changed = omega arith;
+  parts = refl;
 }
 
--- of a call on a repository at most the first turn was made
-pub StoppedWith-call : (before after : Seen) (key : RepoKey) (call : Call) (given : Option (List ℕ)) (moment : ℕ) (old now : List Place) → now ≡ old
-    → Stopped before after (call_script key call given moment) (first_entries before key call) → StoppedWith before after (call_script key call given moment) old now
-StoppedWith-call before after key call given moment old now same stopped =
-    let most = first_entries-le before key call given moment in
-    StoppedWith-untold before after (call_script key call given moment) old now same (record {
-      entries = stopped.entries;
-      within = omega (arith, stopped.within, most);
-      realm_stays = stopped.realm_stays;
-      left = stopped.left;
-      counted = stopped.counted;
-    })
-
--- the places of a whole script say that an entry was added as often as one was
-changed_in : {A : Type 0} (before after : Seen) (script : Script A) (answer : A) (places : List Place) → Ran before after script answer places
-    → count_changed places ≤ entries_of before script
-changed_in before after script answer places ran =
-    omega (arith, ap count_changed ran.placed, count_changed-run before.realm before.world script)
+-- of a call at most so many turns were made
+pub StoppedWith-within : {A : Type 0} (most : ℕ) (before after : DeskState) (script : Script A) (old now : List Place) → now ≡ old
+    → StoppedWithin most before after script → StoppedWith before after script old now
+StoppedWith-within most before after script old now same s = StoppedWith-untold before after script old now same s.stopped
 
 -- all turns were made, and the answer wasn't told
-pub StoppedWith-whole : {A : Type 0} (before after : Seen) (script : Script A) (answer : A) (old now : List Place) → RanWith before after script answer old now
+pub StoppedWith-whole : {A : Type 0} (before after : DeskState) (script : Script A) (answer : A) (old now : List Place) → RanWith before after script answer old now
     → StoppedWith before after script old now
 unfolding Stopped-whole
 StoppedWith-whole before after script answer old now w = record {
   places = w.places;
   rest = [];
   added = w.added;
-  parts = sym w.ran.placed ∙ sym (append-nil w.places);
   stopped = Stopped-whole before after script answer w.places w.ran;
-  changed = changed_in before after script answer w.places w.ran;
+  parts = sym w.ran.placed ∙ sym (append-nil w.places);
 }
 
 -- all turns were made, and neither the answer nor a place was told
-pub StoppedWith-unheard : {A : Type 0} (before after : Seen) (script : Script A) (answer : A) (places old now : List Place) → now ≡ old → Ran before after script answer places
+pub StoppedWith-unheard : {A : Type 0} (before after : DeskState) (script : Script A) (answer : A) (places old now : List Place) → now ≡ old → Ran before after script answer places
     → StoppedWith before after script old now
 StoppedWith-unheard before after script answer places old now same ran =
     StoppedWith-untold before after script old now same (Stopped-whole before after script answer places ran)
 
 -- ---- and then another
 
--- the places of both
-places_of-then : {A B : Type 0} (before mid : Seen) (script : Script A) (next : A → Script B) (answer : A) (places : List Place) → Ran before mid script answer places
-    → (run_on before (then_do script next)).places ≡ places ++ (run_on mid (next answer)).places
-places_of-then before mid script next answer places ran =
-    let both : RunsThen before.realm before.world script next = run-then_do before.realm before.world script next in
-    both.places_are
-    ∙ ap (λ ps. ps ++ (run before.realm (run_on before script).world (next (run_on before script).answer)).places) (sym ran.placed)
-    ∙ ap (λ w. places ++ (run before.realm w (next (run_on before script).answer)).places) (sym ran.left)
-    ∙ ap (λ g. places ++ (run g mid.world (next (run_on before script).answer)).places) (sym ran.realm_stays)
-    ∙ ap (λ a. places ++ (run_on mid (next a)).places) (sym ran.answered)
-
-pub RanWith-then : {A B : Type 0} (before mid after : Seen) (script : Script A) (next : A → Script B) (a : A) (b : B) (old more now : List Place)
+pub RanWith-then : {A B : Type 0} (before mid after : DeskState) (script : Script A) (next : A → Script B) (a : A) (b : B) (old more now : List Place)
     → RanWith before mid script a old more → RanWith mid after (next a) b more now → RanWith before after (then_do script next) b old now
 RanWith-then before mid after script next a b old more now one other = record {
   places = one.places ++ other.places;
@@ -119,37 +81,34 @@ RanWith-then before mid after script next a b old more now one other = record {
   ran = Ran-then before mid after script next a b one.places other.places one.ran other.ran;
 }
 
-pub StoppedWith-first : {A B : Type 0} (before after : Seen) (script : Script A) (next : A → Script B) (old now : List Place)
+pub StoppedWith-first : {A B : Type 0} (before after : DeskState) (script : Script A) (next : A → Script B) (old now : List Place)
     → StoppedWith before after script old now → StoppedWith before after (then_do script next) old now
 unfolding Stopped-first
-StoppedWith-first before after script next old now s =
-    let both : RunsThen before.realm before.world script next = run-then_do before.realm before.world script next in
-    let further = (run before.realm (run_on before script).world (next (run_on before script).answer)).places in
-    record {
-      places = s.places;
-      rest = s.rest ++ further;
-      added = s.added;
-      parts = both.places_are ∙ ap (λ ps. ps ++ further) s.parts ∙ append_assoc s.places s.rest further;
-      stopped = Stopped-first before after script next (entries_of before script) (omega arith) s.stopped;
-      changed = s.changed;
-    }
+StoppedWith-first before after script next old now s = record {
+  places = s.places;
+  rest = s.rest;
+  added = s.added;
+  stopped = Stopped-first before after script next s.stopped;
+  parts = s.parts;
+}
 
-pub StoppedWith-then : {A B : Type 0} (before mid after : Seen) (script : Script A) (next : A → Script B) (a : A) (old more now : List Place)
+pub StoppedWith-then : {A B : Type 0} (before mid after : DeskState) (script : Script A) (next : A → Script B) (a : A) (old more now : List Place)
     → RanWith before mid script a old more → StoppedWith mid after (next a) more now → StoppedWith before after (then_do script next) old now
 unfolding Stopped-then
 StoppedWith-then before mid after script next a old more now one other = record {
   places = one.places ++ other.places;
   rest = other.rest;
   added = other.added ∙ ap (λ l. l ++ other.places) one.added ∙ append_assoc old one.places other.places;
-  parts = places_of-then before mid script next a one.places one.ran ∙ ap (λ ps. one.places ++ ps) other.parts
+  stopped = Stopped-then before mid after script next a one.places one.ran other.stopped;
+  parts = places_of-append one.ran.turns other.stopped.turns
+      ∙ ap (λ ps. ps ++ places_of other.stopped.turns) (sym one.ran.placed)
+      ∙ ap (λ ps. one.places ++ ps) other.parts
       ∙ sym (append_assoc one.places other.places other.rest);
-  stopped = Stopped-then before mid after script next a one.places (entries_of mid (next a)) one.ran (omega arith) other.stopped;
-  changed = omega (arith, count_changed-append one.places other.places, changed_in before mid script a one.places one.ran, other.changed);
 }
 
 -- ---- a whole script, turn by turn
 
-pub LeadsTo-then : {A B : Type 0} (before now next_seen : Seen) (whole : Script B) (script : Script A) (next : A → Script B) (a : A) (old places more : List Place)
+pub LeadsTo-then : {A B : Type 0} (before now next_seen : DeskState) (whole : Script B) (script : Script A) (next : A → Script B) (a : A) (old places more : List Place)
     → LeadsTo before now whole (then_do script next) old places → RanWith now next_seen script a places more → LeadsTo before next_seen whole (next a) old more
 LeadsTo-then before now next_seen whole script next a old places more to one = record {
   ran = λ later answer last w. to.ran later answer last (RanWith-then now next_seen later script next a answer places more last one w);
@@ -171,7 +130,7 @@ named_step s moment rows names reply = cond (is_refused reply) (ends reply) (nam
 after_one : SiteId → ℕ → List Row → List Name → Decided → Script Reply
 after_one s moment rows names d = named_step s moment rows names d.reply
 
-LeadsTo-named : (before now after : Seen) (whole : Script Reply) (s : SiteId) (moment : ℕ) (rows rows_after : List Row) (names : List Name) (i : ℕ) (name : Name) (refusal : Option Refusal) (old places more : List Place)
+LeadsTo-named : (before now after : DeskState) (whole : Script Reply) (s : SiteId) (moment : ℕ) (rows rows_after : List Row) (names : List Name) (i : ℕ) (name : Name) (refusal : Option Refusal) (old places more : List Place)
     → i < length names → name ≡ get_or names i name → LeadsTo before now whole (named_script s moment rows (drop i names)) old places
     → (d : IsDescribed now after s name moment rows rows_after refusal places more) → LeadsTo before after whole (named_step s moment rows (drop (i + 1) names) d.decided.reply) old more
 unfolding named_script named_step after_one
@@ -193,7 +152,7 @@ unfolding named_step
 named_step-refused s moment rows names (Refused other) refusal some = ap (λ (r : Refusal). ends (Refused r)) (let same : Some refusal ≡ Some other = some in cc)
 named_step-refused s moment rows names _ refusal some = absurd (let no : Some refusal ≡ None = some in cc)
 
-pub LeadsTo-named_on : (before now after : Seen) (whole : Script Reply) (s : SiteId) (moment : ℕ) (rows rows_after : List Row) (names : List Name) (i : ℕ) (name : Name) (old places more : List Place)
+pub LeadsTo-named_on : (before now after : DeskState) (whole : Script Reply) (s : SiteId) (moment : ℕ) (rows rows_after : List Row) (names : List Name) (i : ℕ) (name : Name) (old places more : List Place)
     → i < length names → name ≡ get_or names i name → LeadsTo before now whole (named_script s moment rows (drop i names)) old places
     → IsDescribed now after s name moment rows rows_after None places more → LeadsTo before after whole (named_script s moment rows_after (drop (i + 1) names)) old more
 LeadsTo-named_on before now after whole s moment rows rows_after names i name old places more inside is to d =
@@ -201,7 +160,7 @@ LeadsTo-named_on before now after whole s moment rows rows_after names i name ol
     (subst (λ rest. LeadsTo before after whole rest old more) (named_step-on s moment rows (drop (i + 1) names) d.decided.reply d.refused)
     (LeadsTo-named before now after whole s moment rows rows_after names i name None old places more inside is to d))
 
-pub RanWith-named_refused : (before now after : Seen) (whole : Script Reply) (s : SiteId) (moment : ℕ) (rows rows_after : List Row) (names : List Name) (i : ℕ) (name : Name) (refusal : Refusal) (old places more : List Place)
+pub RanWith-named_refused : (before now after : DeskState) (whole : Script Reply) (s : SiteId) (moment : ℕ) (rows rows_after : List Row) (names : List Name) (i : ℕ) (name : Name) (refusal : Refusal) (old places more : List Place)
     → i < length names → name ≡ get_or names i name → LeadsTo before now whole (named_script s moment rows (drop i names)) old places
     → IsDescribed now after s name moment rows rows_after (Some refusal) places more → RanWith before after whole (Refused refusal) old more
 RanWith-named_refused before now after whole s moment rows rows_after names i name refusal old places more inside is to d =
@@ -209,7 +168,7 @@ RanWith-named_refused before now after whole s moment rows rows_after names i na
     (LeadsTo-named before now after whole s moment rows rows_after names i name (Some refusal) old places more inside is to d)).ran after (Refused refusal) more
     (RanWith-ends after (Refused refusal) more)
 
-pub StoppedWith-named : (before now after : Seen) (whole : Script Reply) (s : SiteId) (moment : ℕ) (rows : List Row) (names : List Name) (i : ℕ) (name : Name) (old places more : List Place)
+pub StoppedWith-named : (before now after : DeskState) (whole : Script Reply) (s : SiteId) (moment : ℕ) (rows : List Row) (names : List Name) (i : ℕ) (name : Name) (old places more : List Place)
     → i < length names → name ≡ get_or names i name → LeadsTo before now whole (named_script s moment rows (drop i names)) old places
     → StoppedWith now after (one_script s moment name) places more → StoppedWith before after whole old more
 unfolding named_script named_step after_one
@@ -218,7 +177,7 @@ StoppedWith-named before now after whole s moment rows names i name old places m
     (subst (λ rest. StoppedWith now after rest places more) (sym (named_at s moment rows names i name inside is))
     (StoppedWith-first now after (one_script s moment name) (after_one s moment rows (drop (i + 1) names)) places more stopped))
 
-pub RanWith-named_end : (before now : Seen) (whole : Script Reply) (s : SiteId) (moment : ℕ) (rows : List Row) (names : List Name) (i : ℕ) (old places : List Place)
+pub RanWith-named_end : (before now : DeskState) (whole : Script Reply) (s : SiteId) (moment : ℕ) (rows : List Row) (names : List Name) (i : ℕ) (old places : List Place)
     → length names ≤ i → LeadsTo before now whole (named_script s moment rows (drop i names)) old places → RanWith before now whole (Described rows None) old places
 unfolding named_script
 RanWith-named_end before now whole s moment rows names i old places all to =
@@ -232,7 +191,7 @@ listed_at : (s : SiteId) (moment : ℕ) (next : Option ℕ) (rows : List Row) (n
 listed_at s moment next rows names i name inside is =
     ap (listed_script s moment next rows) (drop_more names i name inside ∙ ap (λ n. n ∷ drop (i + 1) names) (sym is))
 
-pub LeadsTo-listed : (before now after : Seen) (whole : Script Reply) (s : SiteId) (moment : ℕ) (next : Option ℕ) (rows rows_after : List Row) (names : List Name) (i : ℕ) (name : Name) (refusal : Option Refusal) (old places more : List Place)
+pub LeadsTo-listed : (before now after : DeskState) (whole : Script Reply) (s : SiteId) (moment : ℕ) (next : Option ℕ) (rows rows_after : List Row) (names : List Name) (i : ℕ) (name : Name) (refusal : Option Refusal) (old places more : List Place)
     → i < length names → name ≡ get_or names i name → LeadsTo before now whole (listed_script s moment next rows (drop i names)) old places
     → IsDescribed now after s name moment rows rows_after refusal places more → LeadsTo before after whole (listed_script s moment next rows_after (drop (i + 1) names)) old more
 unfolding listed_script
@@ -241,7 +200,7 @@ LeadsTo-listed before now after whole s moment next rows rows_after names i name
     (LeadsTo-then before now after whole (one_script s moment name) (λ d. listed_script s moment next (rows ++ rows_in d.reply) (drop (i + 1) names)) d.decided old places more
     (subst (λ rest. LeadsTo before now whole rest old places) (listed_at s moment next rows names i name inside is) to) d.ran)
 
-pub StoppedWith-listed : (before now after : Seen) (whole : Script Reply) (s : SiteId) (moment : ℕ) (next : Option ℕ) (rows : List Row) (names : List Name) (i : ℕ) (name : Name) (old places more : List Place)
+pub StoppedWith-listed : (before now after : DeskState) (whole : Script Reply) (s : SiteId) (moment : ℕ) (next : Option ℕ) (rows : List Row) (names : List Name) (i : ℕ) (name : Name) (old places more : List Place)
     → i < length names → name ≡ get_or names i name → LeadsTo before now whole (listed_script s moment next rows (drop i names)) old places
     → StoppedWith now after (one_script s moment name) places more → StoppedWith before after whole old more
 unfolding listed_script
@@ -250,7 +209,7 @@ StoppedWith-listed before now after whole s moment next rows names i name old pl
     (subst (λ rest. StoppedWith now after rest places more) (sym (listed_at s moment next rows names i name inside is))
     (StoppedWith-first now after (one_script s moment name) (λ d. listed_script s moment next (rows ++ rows_in d.reply) (drop (i + 1) names)) places more stopped))
 
-pub RanWith-listed_end : (before now : Seen) (whole : Script Reply) (s : SiteId) (moment : ℕ) (next : Option ℕ) (rows : List Row) (names : List Name) (i : ℕ) (old places : List Place)
+pub RanWith-listed_end : (before now : DeskState) (whole : Script Reply) (s : SiteId) (moment : ℕ) (next : Option ℕ) (rows : List Row) (names : List Name) (i : ℕ) (old places : List Place)
     → length names ≤ i → LeadsTo before now whole (listed_script s moment next rows (drop i names)) old places → RanWith before now whole (Described rows next) old places
 unfolding listed_script
 RanWith-listed_end before now whole s moment next rows names i old places all to =
@@ -265,30 +224,30 @@ OnErr-always (Ok a) P holds = tt
 OnErr-always (Err e) P holds = holds
 
 -- a call on a repository that is known by another word
-pub StoppedWith-key : (before after : Seen) (key other : RepoKey) (call : Call) (given : Option (List ℕ)) (moment : ℕ) (answer : Decided) (old now : List Place) → key ≡ other
+pub StoppedWith-key : (before after : DeskState) (key other : RepoKey) (call : Call) (given : Option (List ℕ)) (moment : ℕ) (answer : Decided) (old now : List Place) → key ≡ other
     → RanWith before after (call_script key call given moment) answer old now → StoppedWith before after (call_script other call given moment) old now
 StoppedWith-key before after key other call given moment answer old now same w =
     subst (λ k. StoppedWith before after (call_script k call given moment) old now) same (StoppedWith-whole before after (call_script key call given moment) answer old now w)
 
 -- the served sites stay
-pub Contains-described : (now after : Seen) (s : SiteId) (name : Name) (moment : ℕ) (rows rows_after : List Row) (refusal : Option Refusal) (places more : List Place)
+pub Contains-described : (now after : DeskState) (s : SiteId) (name : Name) (moment : ℕ) (rows rows_after : List Row) (refusal : Option Refusal) (places more : List Place)
     → IsDescribed now after s name moment rows rows_after refusal places more → Contains now.realm.served s → Contains after.realm.served s
 Contains-described now after s name moment rows rows_after refusal places more d at =
     subst (λ (r : Realm). Contains r.served s) (sym d.ran.ran.realm_stays) at
 
 -- the same of a refusal that is known by another word
-pub IsDescribed-same : (now after : Seen) (s : SiteId) (name : Name) (moment : ℕ) (rows rows_after : List Row) (refusal other : Option Refusal) (places more : List Place) → refusal ≡ other
+pub IsDescribed-same : (now after : DeskState) (s : SiteId) (name : Name) (moment : ℕ) (rows rows_after : List Row) (refusal other : Option Refusal) (places more : List Place) → refusal ≡ other
     → IsDescribed now after s name moment rows rows_after refusal places more → IsDescribed now after s name moment rows rows_after other places more
 IsDescribed-same now after s name moment rows rows_after refusal other places more same d =
     subst (λ o. IsDescribed now after s name moment rows rows_after o places more) same d
 
 -- the whole script ends with these rows
-pub RanWith-named_rows : (before now : Seen) (whole : Script Reply) (s : SiteId) (moment : ℕ) (rows others : List Row) (names : List Name) (i : ℕ) (old places : List Place) → others ≡ rows
+pub RanWith-named_rows : (before now : DeskState) (whole : Script Reply) (s : SiteId) (moment : ℕ) (rows others : List Row) (names : List Name) (i : ℕ) (old places : List Place) → others ≡ rows
     → length names ≤ i → LeadsTo before now whole (named_script s moment rows (drop i names)) old places → RanWith before now whole (Described others None) old places
 RanWith-named_rows before now whole s moment rows others names i old places same all to =
     subst (λ r. RanWith before now whole (Described r None) old places) (sym same) (RanWith-named_end before now whole s moment rows names i old places all to)
 
-pub RanWith-listed_rows : (before now : Seen) (whole : Script Reply) (s : SiteId) (moment : ℕ) (next : Option ℕ) (rows others : List Row) (names : List Name) (i : ℕ) (old places : List Place) → others ≡ rows
+pub RanWith-listed_rows : (before now : DeskState) (whole : Script Reply) (s : SiteId) (moment : ℕ) (next : Option ℕ) (rows others : List Row) (names : List Name) (i : ℕ) (old places : List Place) → others ≡ rows
     → length names ≤ i → LeadsTo before now whole (listed_script s moment next rows (drop i names)) old places → RanWith before now whole (Described others next) old places
 RanWith-listed_rows before now whole s moment next rows others names i old places same all to =
     subst (λ r. RanWith before now whole (Described r next) old places) (sym same) (RanWith-listed_end before now whole s moment next rows names i old places all to)

@@ -16,7 +16,7 @@ use crate::host::site_for;
 use crate::turns::{Decided, call_at, site_at};
 use ecr_api::{ApiRefusal, Asked, read_call, read_call_in, write_refused, write_reply};
 use ecr_blob_upload::Load;
-use ecr_desk::StillDesk;
+use ecr_desk::AnyDesk;
 use ecr_http::{HttpReply, closes, path_of, write_empty};
 use ecr_model::{
     Call, Cut, Digest, Mem, Moment, Place, Refusal, Reply, Request, SiteId, SiteReply,
@@ -37,7 +37,7 @@ pub(crate) struct Answer {
 }
 
 /// Answers a request at the moment. Without memory the turns that it made stay.
-pub(crate) fn answer_request<D: StillDesk>(
+pub(crate) fn answer_request<D: AnyDesk>(
     alloc: Global,
     scratch: &mut Scratch,
     desk: &mut D,
@@ -95,7 +95,7 @@ fn plain(reply: HttpReply) -> Replied
 }
 
 // The reply to a request, whose places are put behind the others.
-fn try_answer<D: StillDesk>(
+fn try_answer<D: AnyDesk>(
     alloc: Global,
     scratch: &mut Scratch,
     desk: &mut D,
@@ -163,7 +163,7 @@ fn target_of(request: &Request) -> &[u8]
 }
 
 // The reply to what is asked.
-fn answer_asked<D: StillDesk>(
+fn answer_asked<D: AnyDesk>(
     alloc: Global,
     desk: &mut D,
     asked: &Asked,
@@ -185,7 +185,7 @@ fn answer_asked<D: StillDesk>(
 }
 
 // Makes the turns of what is asked.
-fn run_asked<D: StillDesk>(
+fn run_asked<D: AnyDesk>(
     alloc: Global,
     desk: &mut D,
     asked: &Asked,

@@ -5,7 +5,7 @@ ghost use Rattle.ecr_session.specs.Turns.{IsDescribed, RanWith, StoppedWith};
 
 use crate::turns::{call_at, site_at};
 use ecr_blob_upload::Load;
-use ecr_desk::StillDesk;
+use ecr_desk::AnyDesk;
 use ecr_model::{
     Call, Described, Listed, Mem, Moment, Name, Page, Place, Refusal, Reply, RepoKey, SiteCall,
     SiteId, SiteReply,
@@ -14,7 +14,7 @@ use std::alloc::Global;
 
 /// The named repositories, or else those of a page of the site's names.
 #[tactic(auto, unfolding(ecr_model::specs::Requests::describe_script))]
-pub(crate) fn describe<D: StillDesk>(
+pub(crate) fn describe<D: AnyDesk>(
     alloc: Global,
     desk: &mut D,
     site: &SiteId,
@@ -35,7 +35,7 @@ pub(crate) fn describe<D: StillDesk>(
 }
 
 /// The named repositories in order, up to the first that is refused.
-fn describe_named<D: StillDesk>(
+fn describe_named<D: AnyDesk>(
     alloc: Global,
     desk: &mut D,
     site: &SiteId,
@@ -61,7 +61,7 @@ fn describe_named<D: StillDesk>(
 
 /// The repositories of a page of the site's names.
 #[tactic(auto, unfolding(ecr_model::specs::Requests::describe_script))]
-fn describe_page<D: StillDesk>(
+fn describe_page<D: AnyDesk>(
     alloc: Global,
     desk: &mut D,
     site: &SiteId,
@@ -85,7 +85,7 @@ fn describe_page<D: StillDesk>(
 }
 
 /// The listed repositories in order; those that are absent are left out.
-fn describe_listed<D: StillDesk>(
+fn describe_listed<D: AnyDesk>(
     alloc: Global,
     desk: &mut D,
     site: &SiteId,
@@ -109,7 +109,7 @@ fn describe_listed<D: StillDesk>(
 }
 
 /// Describes one repository behind the rows before it, or says why that is refused.
-fn describe_next<D: StillDesk>(
+fn describe_next<D: AnyDesk>(
     alloc: Global,
     desk: &mut D,
     site: &SiteId,

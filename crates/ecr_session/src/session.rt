@@ -26,6 +26,7 @@ pub struct Session {
 impl Session {
     ghost use Rattle.std.specs.Prelude.{◌≡◌, ◌+◌, ◌-◌, ◌^◌, ◌<◌, ◌≤◌, ◌≢◌, ℕ, List, [], true, false, length, Option, Some, IfOk, IfNone, OnOk, vec_len, vec_capacity};
     ghost use Rattle.ecr_model.specs.Sessions.{Outside, Setting};
+    ghost use Rattle.ecr_desk.specs.Desks.{still_of};
     ghost use Rattle.ecr_session.specs.Serving.{HasCome, GoesOn, HasEnded, HasRoom, ServesRequest, SendsLast, IsFresh, account_in, entries_in, reply_bytes};
     ghost use Rattle.ecr_http.specs.Sends.{Sends};
     ghost use Rattle.ecr_model.specs.Replies.{is_head};
@@ -59,10 +60,10 @@ impl Session {
         requires fresh { IsFresh self.old }
         requires some { 0 < length (D.seen desk.old).realm.served }
         ensures serves { HasEnded
-            (record { realm = (D.seen desk.old).realm; first = (D.seen desk.old).world; fixed = fixed })
+            (record { realm = (D.seen desk.old).realm; first = (still_of (D.seen desk.old)).world; fixed = fixed })
             (record { left = S.left source.old; held = K.held sink.old; told = C.told clock.old; read_faults = S.faults source.old; write_faults = K.faults sink.old })
             (record { left = S.left source.new; held = K.held sink.new; told = C.told clock.new; read_faults = S.faults source.new; write_faults = K.faults sink.new })
-            self.new (D.seen desk.new) result }
+            self.new (still_of (D.seen desk.new)) result }
         ensures counted { (D.seen desk.new).made ≡ (D.seen desk.old).made + entries_in self.new.cuts.items }
     {
         loop {
@@ -88,10 +89,10 @@ impl Session {
         requires some { 0 < length (D.seen desk.old).realm.served }
         ensures goes_on { (set : Setting) (before : Outside) → set.fixed ≡ fixed → HasCome set before
             (record { left = S.left source.old; held = K.held sink.old; told = C.told clock.old; read_faults = S.faults source.old; write_faults = K.faults sink.old })
-            self.old (D.seen desk.old)
+            self.old (still_of (D.seen desk.old))
             → GoesOn set before
             (record { left = S.left source.new; held = K.held sink.new; told = C.told clock.new; read_faults = S.faults source.new; write_faults = K.faults sink.new })
-            self.new (D.seen desk.new) result }
+            self.new (still_of (D.seen desk.new)) result }
         ensures counted { (D.seen desk.new).made + entries_in self.old.cuts.items ≡ (D.seen desk.old).made + entries_in self.new.cuts.items }
 
         // A turn adds a cut, and a list of cuts has an end.
@@ -143,8 +144,8 @@ impl Session {
         requires some { 0 < length (D.seen desk.old).realm.served }
         requires room { HasRoom self.old }
         ensures serves { (left : Option (List ℕ)) (faults : ℕ) → ServesRequest fixed request.now
-            (record { left = left; held = K.held sink.old; told = C.told clock.old; read_faults = faults; write_faults = K.faults sink.old }) self.old (D.seen desk.old)
-            (record { left = left; held = K.held sink.new; told = C.told clock.new; read_faults = faults; write_faults = K.faults sink.new }) self.new (D.seen desk.new) result }
+            (record { left = left; held = K.held sink.old; told = C.told clock.old; read_faults = faults; write_faults = K.faults sink.old }) self.old (still_of (D.seen desk.old))
+            (record { left = left; held = K.held sink.new; told = C.told clock.new; read_faults = faults; write_faults = K.faults sink.new }) self.new (still_of (D.seen desk.new)) result }
         ensures counted { (D.seen desk.new).made + entries_in self.old.cuts.items ≡ (D.seen desk.old).made + entries_in self.new.cuts.items }
         ensures longer { vec_len self.new.cuts ≡ vec_len self.old.cuts + 1 }
         ensures later { K.faults sink.old ≤ K.faults sink.new }

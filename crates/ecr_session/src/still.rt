@@ -3,6 +3,7 @@ ghost use Rattle.std.specs.Prelude.{◌≡◌, ◌<◌, ◌+◌, false, length, 
 ghost use Rattle.ecr_model.specs.SessionLaws.{all_places};
 ghost use Rattle.ecr_model.specs.Sessions.{Account, Outside, Serves, Setting};
 ghost use Rattle.ecr_model.specs.Soundness.{AreFresh};
+ghost use Rattle.ecr_desk.specs.Desks.{still_of};
 ghost use Rattle.ecr_session.specs.Serving.{account_in, entries_in};
 
 use crate::session::Session;
@@ -52,15 +53,15 @@ pub fn session_still<D: StillDesk, S: Source, K: Sink, C: Clock>(
 
     // What the session read, answered and wrote, and what is on the desk afterwards.
     ensures serves { Serves
-        (record { realm = (D.seen desk.old).realm; first = (D.seen desk.old).world; fixed = mode.fixed })
+        (record { realm = (D.seen desk.old).realm; first = (still_of (D.seen desk.old)).world; fixed = mode.fixed })
         (record { left = S.left source.old; held = K.held sink.old; told = C.told clock.old; read_faults = S.faults source.old; write_faults = K.faults sink.old })
         (record { left = S.left source.new; held = K.held sink.new; told = C.told clock.new; read_faults = S.faults source.new; write_faults = K.faults sink.new })
         (record { moments = result.moments.items; places = map (λ v. v.items) result.places.items; cuts = result.cuts.items })
-        (D.seen desk.new).world result.end }
+        (still_of (D.seen desk.new)).world result.end }
     ensures realm_stays { (D.seen desk.new).realm ≡ (D.seen desk.old).realm }
 
     // Each place is above all tickets that stood in its cell before, and the tickets of one cell don't fall.
-    ensures fresh { AreFresh (D.seen desk.old).world.journals (all_places (map (λ v. v.items) result.places.items)) }
+    ensures fresh { AreFresh (still_of (D.seen desk.old)).world.journals (all_places (map (λ v. v.items) result.places.items)) }
     ensures counted { (D.seen desk.new).made ≡ (D.seen desk.old).made + entries_in result.cuts.items }
 {
     // That the desk's journals are sound comes with what it serves.

@@ -6,7 +6,7 @@ ghost use Rattle.ecr_model.specs.Requests.{call_script, site_script};
 ghost use Rattle.ecr_session.specs.Turns.{RanWith, StoppedWith};
 
 use ecr_blob_upload::{Blob, Load};
-use ecr_desk::StillDesk;
+use ecr_desk::AnyDesk;
 use ecr_model::{Call, Digest, Mem, Moment, Place, Reply, RepoKey, SiteCall, SiteId, SiteReply};
 use std::alloc::Global;
 
@@ -20,7 +20,7 @@ pub(crate) struct Decided {
 }
 
 /// A call on a repository. It has at most two turns.
-pub(crate) fn call_at<D: StillDesk>(
+pub(crate) fn call_at<D: AnyDesk>(
     alloc: Global,
     desk: &mut D,
     key: &RepoKey,
@@ -46,7 +46,7 @@ pub(crate) fn call_at<D: StillDesk>(
 }
 
 /// A call on a site's directory.
-pub(crate) fn site_at<D: StillDesk>(
+pub(crate) fn site_at<D: AnyDesk>(
     alloc: Global,
     desk: &mut D,
     site: &SiteId,

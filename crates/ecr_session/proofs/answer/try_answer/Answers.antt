@@ -22,14 +22,14 @@ returns-in_err-reply-clause-stopped g c = OnErr-always _ _ (StoppedWith-nothing 
 
 pub answer_asked-requires-clause-askable : goal.answer_asked-requires-clause-askable
 answer_asked-requires-clause-askable g c =
-    let served = (g.D.StillDesk.seen c.args.desk.now).realm.served in
+    let served = (g.D.AnyDesk.seen c.args.desk.now).realm.served in
     let request = c.args.request.now in
     let reads = subst (λ (s : List SiteId). reading (target_of request) request.body (base_of s request) s ≡ asks (meaning c.in-Ok.asked)) c.served.ensures.sites c.in-Ok.ensures.exact in
     reading-askable _ _ _ _ _ (site_for-served served _ c.requires) reads
 
 pub returns-in-Ok-clause-replied : goal.returns-in-Ok-clause-replied
 returns-in-Ok-clause-replied g c =
-    let served = (g.D.StillDesk.seen c.args.desk.now).realm.served in
+    let served = (g.D.AnyDesk.seen c.args.desk.now).realm.served in
     let request = c.args.request.now in
     let reads = subst (λ (s : List SiteId). reading (target_of request) request.body (base_of s request) s ≡ asks (meaning c.in-Ok.asked)) c.served.ensures.sites c.in-Ok.ensures.exact in
     let posed = posed_of-api served request _ (sym c.is_json_call.ensures ∙ c.if-not-is_json_call.false) reads in
@@ -37,7 +37,7 @@ returns-in-Ok-clause-replied g c =
 
 pub returns-in-Ok-clause-stopped : goal.returns-in-Ok-clause-stopped
 returns-in-Ok-clause-stopped g c =
-    let served = (g.D.StillDesk.seen c.args.desk.now).realm.served in
+    let served = (g.D.AnyDesk.seen c.args.desk.now).realm.served in
     let request = c.args.request.now in
     let reads = subst (λ (s : List SiteId). reading (target_of request) request.body (base_of s request) s ≡ asks (meaning c.in-Ok.asked)) c.served.ensures.sites c.in-Ok.ensures.exact in
     let posed = posed_of-api served request _ (sym c.is_json_call.ensures ∙ c.if-not-is_json_call.false) reads in
@@ -45,7 +45,7 @@ returns-in-Ok-clause-stopped g c =
 
 pub returns-in_ok-reply-in-Err-Refused-clause-replied : goal.returns-in_ok-reply-in-Err-Refused-clause-replied
 returns-in_ok-reply-in-Err-Refused-clause-replied g c =
-    let served = (g.D.StillDesk.seen c.args.desk.now).realm.served in
+    let served = (g.D.AnyDesk.seen c.args.desk.now).realm.served in
     let request = c.args.request.now in
     let reads = subst (λ (s : List SiteId). reading (target_of request) request.body (base_of s request) s ≡ refuses c.in-Err-Refused.refusal) c.served.ensures.sites (Reads-refused _ _ _ c.in-Err-Refused.field-0-is c.in-Err-Refused.ensures.exact) in
     let posed = posed_of-api served request _ (sym c.is_json_call.ensures ∙ c.if-not-is_json_call.false) reads in

@@ -6,7 +6,7 @@ use Rattle.ecr_session.proofs.describe.describe_named.Given as goal
 
 abbrev pub invariant-loop-name : goal.invariant-loop-name
 invariant-loop-name g l = record {
-  served : Contains (g.D.StillDesk.seen l.desk).realm.served l.site;
-  to : LeadsTo (g.D.StillDesk.seen l.fn.desk) (g.D.StillDesk.seen l.desk) (named_script l.site l.moment [] l.names)
+  served : Contains (g.D.AnyDesk.seen l.desk).realm.served l.site;
+  to : LeadsTo (g.D.AnyDesk.seen l.fn.desk) (g.D.AnyDesk.seen l.desk) (named_script l.site l.moment [] l.names)
       (named_script l.site l.moment l.rows.items (drop l.name-index l.names)) l.fn.places.items l.places.items;
 }

@@ -14,7 +14,7 @@ returns-in_err-names-clause-stopped g c = OnErr-always _ _ (StoppedWith-no_page 
 
 pub returns-in-Names-clause-ran : goal.returns-in-Names-clause-ran
 returns-in-Names-clause-ran g c =
-    let seen = g.D.StillDesk.seen in
+    let seen = g.D.AnyDesk.seen in
     let told = subst (λ (r : SiteReply). RanWith (seen c.args.desk.now) (seen c.site_at.new.desk) (site_script c.args.site.now (site_calls.Names c.args.page)) r c.args.places.now.items c.site_at.new.places.items) c.in-Names.is c.in_ok-names.ensures.ran in
     let next = c.next_place-next.ensures ∙ ap (λ (names : List Name). next_place c.args.page names c.in-Names.more) c.as_slice-names.ensures in
     IfOk-weaker c.describe_listed.result _ _
@@ -25,7 +25,7 @@ returns-in-Names-clause-ran g c =
 
 pub returns-in-Names-clause-stopped : goal.returns-in-Names-clause-stopped
 returns-in-Names-clause-stopped g c =
-    let seen = g.D.StillDesk.seen in
+    let seen = g.D.AnyDesk.seen in
     let told = subst (λ (r : SiteReply). RanWith (seen c.args.desk.now) (seen c.site_at.new.desk) (site_script c.args.site.now (site_calls.Names c.args.page)) r c.args.places.now.items c.site_at.new.places.items) c.in-Names.is c.in_ok-names.ensures.ran in
     let next = c.next_place-next.ensures ∙ ap (λ (names : List Name). next_place c.args.page names c.in-Names.more) c.as_slice-names.ensures in
     on_err_weaker c.describe_listed.result
@@ -36,6 +36,6 @@ returns-in-Names-clause-stopped g c =
 
 pub returns-in-Refused-clause-ran : goal.returns-in-Refused-clause-ran
 returns-in-Refused-clause-ran g c =
-    let seen = g.D.StillDesk.seen in
+    let seen = g.D.AnyDesk.seen in
     let told = subst (λ (r : SiteReply). RanWith (seen c.args.desk.now) (seen c.site_at.new.desk) (site_script c.args.site.now (site_calls.Names c.args.page)) r c.args.places.now.items c.site_at.new.places.items) c.in-Refused.is c.in_ok-names.ensures.ran in
     RanWith-page _ _ _ _ _ _ _ _ _ _ _ told (RanWith-ends _ _ _)

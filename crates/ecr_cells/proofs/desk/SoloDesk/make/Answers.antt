@@ -1,8 +1,9 @@
 use Rattle.std.proofs.Common.{sym, ap, ◌∙◌, subst, Contains}
 use Rattle.ecr_cells.specs.Deeds.{ask_of, told_of}
-use Rattle.ecr_cells.specs.Desks.{Desk, Took, seen_of}
+use Rattle.ecr_cells.specs.Desks.{Desk, seen_of, state_of}
 use Rattle.ecr_cells.specs.SiteCells.{site_of}
 use Rattle.ecr_cells.proofs.WorldLemmas.{IsServed-kept, AreKept-turns, AreKept-rests, seen_of-rests, Took-turns, on_err_any}
+use Rattle.ecr_cells.proofs.RunLemmas.{MadeTurn, Ran-took}
 use Rattle.ecr_cells.proofs.desk.SoloDesk.make.Goals as goal
 
 pub make-requires-clause-served : goal.make-requires-clause-served
@@ -29,12 +30,14 @@ invariant_of-self-2 c =
     AreKept-turns s.served s.limits s.cells.entries c.make.new.cells.entries c.args.cell (ask_of c.args.deed) (told_of c.in_ok-done.done) c.in_ok-done.place
     c.self.invariant c.in_ok-done.ensures.turned
 
-pub returns-clause-took : goal.returns-clause-took
-returns-clause-took c =
+pub returns-clause-ran : goal.returns-clause-ran
+returns-clause-ran c =
     let s = c.self.inside in
     let told = told_of c.in_ok-done.done in
     let place = c.in_ok-done.place in
+    let before : Desk = record { served = s.served; limits = s.limits; sites = s.cells.entries; made = s.made } in
     let after : Desk = record { served = s.served; limits = s.limits; sites = c.make.new.cells.entries; made = c.counted-self-inside.result } in
-    subst (λ (d : Desk). Took (seen_of d) (seen_of after) c.args.cell (ask_of c.args.deed) told place) c.self.view_is
+    subst (λ (d : Desk). MadeTurn (state_of d) (state_of after) c.args.cell (ask_of c.args.deed) told place) c.self.view_is
+    (Ran-took (seen_of before) (seen_of after) c.args.cell (ask_of c.args.deed) told place c.self.invariant.sound
     (Took-turns s.served s.limits s.cells.entries c.make.new.cells.entries s.made c.counted-self-inside.result c.args.cell (ask_of c.args.deed) told place
-    c.self.invariant c.in_ok-done.ensures.turned c.counted-self-inside.ensures)
+    c.self.invariant c.in_ok-done.ensures.turned c.counted-self-inside.ensures))

@@ -4,37 +4,36 @@ use Rattle.ecr_model.specs.declared.journal.Place.{Place}
 use Rattle.ecr_model.specs.declared.reply.Reply.{Reply}
 use Rattle.ecr_model.specs.Contents.{AreContents}
 use Rattle.ecr_model.specs.Requests.{Decided, plain, call_script}
-use Rattle.ecr_desk.specs.Desks.{Ran, first_entries}
-use Rattle.ecr_desk.proofs.DeskLemmas.{Ran-call, Stopped-call, Stopped-none}
+use Rattle.ecr_desk.specs.Desks.{Ran, seen_by}
+use Rattle.ecr_desk.proofs.DeskLemmas.{Ran-call, Stopped-call, StoppedWithin-none}
 use Rattle.ecr_cells.specs.Deeds.{told_of}
-use Rattle.ecr_cells.specs.Desks.{seen_of, places_of}
+use Rattle.ecr_cells.specs.Desks.{state_of, places_of}
 use Rattle.ecr_cells.proofs.WorldLemmas.{on_err_any}
-use Rattle.ecr_cells.proofs.desk.SoloDeskStillDesk.call.Goals as goal
+use Rattle.ecr_cells.proofs.desk.SoloDeskAnyDesk.call.Goals as goal
 
 pub returns-in_err-places-clause-stopped : goal.returns-in_err-places-clause-stopped
 returns-in_err-places-clause-stopped c =
-    let seen = seen_of c.args.self.now in
-    let key = c.args.key.now in
-    on_err_any c.from_residual.result (Stopped-none seen seen (call_script key c.args.call (given c.args.load) c.args.moment) (first_entries seen key c.args.call) refl)
+    let seen = state_of c.args.self.now in
+    on_err_any c.from_residual.result
+    (StoppedWithin-none 1 seen seen (call_script c.args.key.now c.args.call (given c.args.load) c.args.moment) refl)
 
 pub returns-in_err-told-clause-stopped : goal.returns-in_err-told-clause-stopped
 returns-in_err-told-clause-stopped c =
-    let seen = seen_of c.args.self.now in
-    let key = c.args.key.now in
     on_err_any c.from_residual-in_err-told.result
-    (Stopped-none seen (seen_of c.first_turn.new.self) (call_script key c.args.call (given c.args.load) c.args.moment) (first_entries seen key c.args.call) c.in_err-told.ensures.err)
+    (StoppedWithin-none 1 (state_of c.args.self.now) (state_of c.first_turn.new.self) (call_script c.args.key.now c.args.call (given c.args.load) c.args.moment)
+    (ap seen_by c.in_err-told.ensures.err))
 
 pub returns-in_err-outcome-clause-stopped : goal.returns-in_err-outcome-clause-stopped
 returns-in_err-outcome-clause-stopped c =
     on_err_any c.from_residual-in_err-outcome.result
-    (Stopped-call (seen_of c.args.self.now) (seen_of c.first_turn.new.self) (seen_of c.then_cell.new.self) c.args.key.now c.args.call (given c.args.load) c.args.moment
-    (told_of c.in_ok-told.told) (c.in_ok-told.first ∷ []) c.in_ok-told.ensures.ran c.in_err-outcome.ensures.err)
+    (Stopped-call (state_of c.args.self.now) (state_of c.first_turn.new.self) (state_of c.then_cell.new.self) c.args.key.now c.args.call (given c.args.load) c.args.moment
+    (told_of c.in_ok-told.told) (c.in_ok-told.first ∷ []) c.in_ok-told.ensures.ran (ap seen_by c.in_err-outcome.ensures.err))
 
 pub returns-clause-ran : goal.returns-clause-ran
 returns-clause-ran c =
-    let before = seen_of c.args.self.now in
-    let mid = seen_of c.first_turn.new.self in
-    let after = seen_of c.then_cell.new.self in
+    let before = state_of c.args.self.now in
+    let mid = state_of c.first_turn.new.self in
+    let after = state_of c.then_cell.new.self in
     let key = c.args.key.now in
     let content = given c.args.load in
     let script = call_script key c.args.call content c.args.moment in
