@@ -1,19 +1,18 @@
 -- What a request may ask of a desk.
 use Rattle.std.proofs.Common.{◌≡◌, ◌<◌, ◌^◌, ◌&&◌, ℕ, zero, suc, Bool, true, false, cond, List, [], ◌∷◌, length, Option, None, Some, refl, subst, arith}
 use Rattle.std.specs.Prelude.{Contains, find, unwrap_or, option_and_then, nat_lt}
-use Rattle.std.specs.Option.{option_or}
+use Rattle.std.specs.Option.{option_map_or, option_or}
 use Rattle.std.proofs.lemmas.Bool.Decides.{nat_tests}
 use Rattle.serde_json.specs.Data.{Data}
 use Rattle.ecr_model.specs.declared.action.Action.{Action}
-use Rattle.ecr_model.specs.declared.action.Action.TheVariants.{CreateRepository, DeleteRepository, DescribeRepositories, PutImageTagMutability}
 use Rattle.ecr_model.specs.declared.names.SiteId.{SiteId}
 use Rattle.ecr_model.specs.declared.refusal.Parameter.{Parameter}
 use Rattle.ecr_model.specs.declared.refusal.Parameter.TheVariants.{RegistryId, NextToken}
 use Rattle.ecr_model.specs.declared.refusal.Refusal.TheVariants.{Serialization}
-use Rattle.ecr_model.specs.Actions.{Asked, Reading, asks, refuses, asked_by, unless_bad, typed_reading, body_reading, action_reading, reading, site_in, text_at, members_of, action_of}
+use Rattle.ecr_model.specs.Actions.{Asked, Made, one, several, Reading, asks, refuses, made_in, asked_in, made_by, unless_bad, values_reading, typed_reading, body_reading, action_reading, reading, site_in, text_at, members_of, action_of}
 use Rattle.ecr_model.specs.Hosts.{first_site, first_with, named_site, registry_host, api_host, site_for, without_port}
 use Rattle.ecr_model.specs.Documents.{document}
-use Rattle.ecr_model.specs.Members.{are_typed, digits_value, first_bad, is_decimal, place_of, site_of, text_in, value_of}
+use Rattle.ecr_model.specs.Members.{Valued, typed_members, digits_value, first_bad, is_decimal, place_of, site_of}
 use Rattle.ecr_session.specs.Turns.{IsAskable}
 
 -- ---- the site is served
@@ -37,8 +36,8 @@ Contains-or served base (Some s) named at = named s refl
 
 Contains-either : (served : List SiteId) (o p : Option SiteId) → ((s : SiteId) → o ≡ Some s → Contains served s) → ((s : SiteId) → p ≡ Some s → Contains served s)
     → (s : SiteId) → option_or o p ≡ Some s → Contains served s
-Contains-either served None p one other s e = other s e
-Contains-either served (Some t) p one other s e = one s e
+Contains-either served None p left right s e = right s e
+Contains-either served (Some t) p left right s e = left s e
 
 Contains-then : {X : Type 0} (served : List SiteId) (o : Option X) (f : X → Option SiteId) → ((x : X) (s : SiteId) → f x ≡ Some s → Contains served s)
     → (s : SiteId) → option_and_then f o ≡ Some s → Contains served s
@@ -68,45 +67,48 @@ site_of-served : (base : SiteId) (served : List SiteId) (account : List ℕ) (s 
 unfolding site_of
 site_of-served base served account s e = Contains-find _ served s e
 
-site_in-served : (base : SiteId) (served : List SiteId) (body : Data) → Contains served base → Contains served (site_in base served body)
-site_in-served base served body at =
-    Contains-or served base (option_and_then (λ value. site_of base served (text_in value)) (value_of RegistryId body))
-    (Contains-then served (value_of RegistryId body) (λ value. site_of base served (text_in value)) (λ value s e. site_of-served base served (text_in value) s e))
+site_in-served : (base : SiteId) (served : List SiteId) (values : List Valued) → Contains served base → Contains served (site_in base served values)
+site_in-served base served values at =
+    Contains-or served base (option_and_then (site_of base served) (text_at RegistryId values))
+    (Contains-then served (text_at RegistryId values) (site_of base served) (site_of-served base served))
     at
 
 -- ---- the first place of a page
 
-place_of-below : (text : List ℕ) → unwrap_or (place_of text) 0 < 2 ^ 63
+place_of-below : (text : Option (List ℕ)) → unwrap_or (option_and_then place_of text) 0 < 2 ^ 63
 unfolding place_of
-place_of-below text = by (is_decimal text) (digits_value text) where
+place_of-below None = omega arith
+place_of-below (Some text) = by (is_decimal text) (digits_value text) where
   by : (b : Bool) (value : ℕ) → unwrap_or (cond (b && nat_lt value (2 ^ 63)) (Some value) None) 0 < 2 ^ 63
   by true value = grind (arith, nat_tests)
   by false value = omega arith
 
 -- ---- what is asked
 
-asked_by-askable : (base : SiteId) (served : List SiteId) (action : Action) (body : Data) → Contains served base → IsAskable served (asked_by base served action body)
-unfolding asked_by
-asked_by-askable base served CreateRepository body at = record { at = site_in-served base served body at; page = tt }
-asked_by-askable base served DeleteRepository body at = record { at = site_in-served base served body at; page = tt }
-asked_by-askable base served DescribeRepositories body at = record { at = site_in-served base served body at; page = place_of-below (text_at NextToken body) }
-asked_by-askable base served PutImageTagMutability body at = record { at = site_in-served base served body at; page = tt }
+asked_in-askable : (base : SiteId) (served : List SiteId) (values : List Valued) (made : Made) → Contains served base → IsAskable served (asked_in base served values made)
+asked_in-askable base served values (one call) at = record { at = site_in-served base served values at; page = tt }
+asked_in-askable base served values several at = record { at = site_in-served base served values at; page = place_of-below (text_at NextToken values) }
 
 -- what is asked may be asked of a desk
 abbrev IsFit : List SiteId → Reading → Type 0
 IsFit served (asks asked) = IsAskable served asked
 IsFit served (refuses refusal) = Unit {0}
 
-unless_bad-fit : (served : List SiteId) (bad : Option Parameter) (asked : Asked) → IsAskable served asked → IsFit served (unless_bad bad asked)
-unless_bad-fit served None asked at = at
-unless_bad-fit served (Some parameter) asked at = tt
+unless_bad-fit : (served : List SiteId) (bad : Option Parameter) (reading : Reading) → IsFit served reading → IsFit served (unless_bad bad reading)
+unless_bad-fit served None reading fit = fit
+unless_bad-fit served (Some parameter) reading fit = tt
+
+values-fit : (base : SiteId) (served : List SiteId) (action : Action) (values : List Valued) → Contains served base → IsFit served (values_reading base served action values)
+unfolding values_reading made_by
+values-fit base served action values at =
+    unless_bad-fit served (first_bad base served values) (made_by base served action values) (asked_in-askable base served values (made_in action values) at)
 
 typed-fit : (base : SiteId) (served : List SiteId) (action : Action) (body : Data) → Contains served base → IsFit served (typed_reading base served action body)
 unfolding typed_reading
-typed-fit base served action body at = by (are_typed (members_of action) body) where
-  by : (b : Bool) → IsFit served (cond b (unless_bad (first_bad base served (members_of action) body) (asked_by base served action body)) (refuses Serialization))
-  by true = unless_bad-fit served (first_bad base served (members_of action) body) (asked_by base served action body) (asked_by-askable base served action body at)
-  by false = tt
+typed-fit base served action body at = by (typed_members (members_of action) body) where
+  by : (o : Option (List Valued)) → IsFit served (option_map_or (values_reading base served action) o (refuses Serialization))
+  by None = tt
+  by (Some values) = values-fit base served action values at
 
 body-fit : (base : SiteId) (served : List SiteId) (action : Action) (body : Option Data) → Contains served base → IsFit served (body_reading base served action body)
 body-fit base served action None at = tt
