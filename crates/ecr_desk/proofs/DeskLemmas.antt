@@ -104,6 +104,13 @@ Stopped-runs_to {A} before after script still stopped =
       placed = first.places_are;
     }
 
+-- it stays still
+pub Stopped-still : {A : Type 0} (before after : DeskState) (script : Script A) → IsStill before → Stopped before after script → IsStill after
+Stopped-still {A} before after script still stopped =
+    let first : IsFirst A before.realm (still_of before).world script after.views stopped.turns = halts-still before after.views script stopped.turns still stopped.halted in
+    still-same after (run_to (count_changed (places_of stopped.turns)) before.realm (still_of before).world script).journals
+    (stopped.alone_stays ∙ ap (λ (s : DeskState). s.alone) still) first.leaves
+
 -- ---- one script and then another
 
 -- a script without a turn leaves all as it was

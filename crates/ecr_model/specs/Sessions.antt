@@ -75,13 +75,17 @@ module _ {S : Type 0} (serves : S → Exchange → S → Type 0) where
   Chain first [] last = last ≡ first
   Chain first (e ∷ es) last = (next : S) × serves first e next × Chain next es last
 
--- the standing of a session between two requests: the sites and limits, the journals with the parts of uploads, the moment
--- of each request where it is fixed, and the moments that the clock has given, where it tells them
-pub record Standing : Type 0 where
+-- the standing of a session between two requests: the sites and limits, the journals as they are seen, the moment of each
+-- request where it is fixed, and the moments that the clock has given, where it tells them
+pub record StandingOf (W : Type 0) : Type 0 where
   pub realm : Realm
-  pub world : World
+  pub world : W
   pub fixed : Option ℕ
   pub told : Option (List ℕ)
+
+-- that of one caller's session, over the journals with the parts of uploads
+abbrev pub Standing : Type 0
+Standing = StandingOf World
 
 -- the moment of an exchange: the fixed one, or the one that the clock gave for it
 abbrev pub IsTime : Option ℕ → Option (List ℕ) → Option (List ℕ) → ℕ → Type 0
@@ -181,50 +185,19 @@ account_of exchanges = record {
   cuts = map (λ e. e.cut) exchanges;
 }
 
--- the beginning of a session: the sites and limits, the journals, and the moment in seconds where it is fixed
-pub record Setting : Type 0 where
+-- the beginning of a session: the sites and limits, the journals as they are seen, and the moment in seconds where it is fixed
+pub record SettingOf (W : Type 0) : Type 0 where
   pub realm : Realm
-  pub first : World
+  pub first : W
   pub fixed : Option ℕ
 
+-- that of one caller's session
+abbrev pub Setting : Type 0
+Setting = SettingOf World
+
 -- the standing of a session with these journals and told moments
-abbrev pub stands : Setting → World → Option (List ℕ) → Standing
+abbrev pub stands : {W : Type 0} → SettingOf W → W → Option (List ℕ) → StandingOf W
 stands set world told = record { realm = set.realm; world = world; fixed = set.fixed; told = told }
-
--- the account is that of these exchanges, which led from the first journals to these
-pub record Serviced (set : Setting) (before after : Outside) (exchanges : List Exchange) (account : Account) (last : World) : Type 0 where
-  pub says : account ≡ account_of exchanges
-  pub served : AreServed (stands set set.first before.told) exchanges (stands set last after.told)
-
--- the bytes that were read begin with these requests, each of which was answered, and no other; the 100 to the request that
--- comes next may have been written
-pub record Answered (set : Setting) (before after : Outside) (account : Account) (last : World) : Type 0 where
-  pub read : List ℕ
-  pub exchanges : List Exchange
-  pub point : Point
-  pub further : List ℕ
-  pub consumed : Consumes before.left after.left read
-  pub within : length read ≤ max_read
-  pub begins : Begins (start read) (requests_of exchanges) point
-  pub goes_on : point.closed ≡ false
-  pub serviced : Serviced set before after exchanges account last
-  pub told_to : (further ≡ []) ⊎ (AwaitsBody point × (further ≡ continue_reply))
-  pub sent : Appends before.held after.held (sent_to exchanges ++ further)
-
--- all requests in the bytes that were read were answered, and the end came after them
-pub record Completed (set : Setting) (before after : Outside) (account : Account) (last : World) (end : End) : Type 0 where
-  pub read : List ℕ
-  pub over : Bool
-  pub exchanges : List Exchange
-  pub tail : Tail
-  pub consumed : Consumes before.left after.left read
-  pub within : length read ≤ max_read
-  pub at_end : over ≡ true → IsAtEnd after.left
-  pub reads : Reads read over (requests_of exchanges) tail
-  pub serviced : Serviced set before after exchanges account last
-  pub sent : Appends before.held after.held (sent_to exchanges ++ last_words tail)
-  pub ends : Ends end tail.ending (length read)
-  pub unspent : IsUnspent end tail.ending (length read)
 
 -- the piece that was being written, and all that was written before it: the reply to the last of the requests, the 100 to
 -- the one that comes next, or the reply to bytes that are no request
@@ -236,30 +209,89 @@ IsLast read exchanges point done piece =
     ⊎ ((over : Bool) × (tail : Tail) × Reads read over (requests_of exchanges) tail
     × (done ≡ sent_to exchanges ++ interim tail.due) × (piece ≡ refusal_of tail.ending)))
 
--- a write failed: the sink got all that was written before, and a part of the piece that was being written, but not all
-pub record CutOff (set : Setting) (before after : Outside) (account : Account) (last : World) : Type 0 where
-  pub read : List ℕ
-  pub exchanges : List Exchange
-  pub point : Point
-  pub done : List ℕ
-  pub piece : List ℕ
-  pub taken : List ℕ
-  pub lost : List ℕ
-  pub consumed : Consumes before.left after.left read
-  pub within : length read ≤ max_read
-  pub begins : Begins (start read) (requests_of exchanges) point
-  pub serviced : Serviced set before after exchanges account last
-  pub is_last : IsLast read exchanges point done piece
-  pub parts : piece ≡ taken ++ lost
-  pub some : 1 ≤ length lost
-  pub sent : Appends before.held after.held (done ++ taken)
+-- of sessions in which each exchange leads from one standing to the next by that relation
+module _ {W : Type 0} (serves : StandingOf W → Exchange → StandingOf W → Type 0) where
+  -- the account is that of these exchanges, which led from the first journals to these
+  pub record ServicedBy (set : SettingOf W) (before after : Outside) (exchanges : List Exchange) (account : Account) (last : W) : Type 0 where
+    pub says : account ≡ account_of exchanges
+    pub served : Chain serves (stands set set.first before.told) exchanges (stands set last after.told)
 
--- a session from its end: the bytes that it read and wrote, its account, and the journals that it left
+  -- the bytes that were read begin with these requests, each of which was answered, and no other; the 100 to the request that
+  -- comes next may have been written
+  pub record AnsweredBy (set : SettingOf W) (before after : Outside) (account : Account) (last : W) : Type 0 where
+    pub read : List ℕ
+    pub exchanges : List Exchange
+    pub point : Point
+    pub further : List ℕ
+    pub consumed : Consumes before.left after.left read
+    pub within : length read ≤ max_read
+    pub begins : Begins (start read) (requests_of exchanges) point
+    pub goes_on : point.closed ≡ false
+    pub serviced : ServicedBy set before after exchanges account last
+    pub told_to : (further ≡ []) ⊎ (AwaitsBody point × (further ≡ continue_reply))
+    pub sent : Appends before.held after.held (sent_to exchanges ++ further)
+
+  -- all requests in the bytes that were read were answered, and the end came after them
+  pub record CompletedBy (set : SettingOf W) (before after : Outside) (account : Account) (last : W) (end : End) : Type 0 where
+    pub read : List ℕ
+    pub over : Bool
+    pub exchanges : List Exchange
+    pub tail : Tail
+    pub consumed : Consumes before.left after.left read
+    pub within : length read ≤ max_read
+    pub at_end : over ≡ true → IsAtEnd after.left
+    pub reads : Reads read over (requests_of exchanges) tail
+    pub serviced : ServicedBy set before after exchanges account last
+    pub sent : Appends before.held after.held (sent_to exchanges ++ last_words tail)
+    pub ends : Ends end tail.ending (length read)
+    pub unspent : IsUnspent end tail.ending (length read)
+
+  -- a write failed: the sink got all that was written before, and a part of the piece that was being written, but not all
+  pub record CutOffBy (set : SettingOf W) (before after : Outside) (account : Account) (last : W) : Type 0 where
+    pub read : List ℕ
+    pub exchanges : List Exchange
+    pub point : Point
+    pub done : List ℕ
+    pub piece : List ℕ
+    pub taken : List ℕ
+    pub lost : List ℕ
+    pub consumed : Consumes before.left after.left read
+    pub within : length read ≤ max_read
+    pub begins : Begins (start read) (requests_of exchanges) point
+    pub serviced : ServicedBy set before after exchanges account last
+    pub is_last : IsLast read exchanges point done piece
+    pub parts : piece ≡ taken ++ lost
+    pub some : 1 ≤ length lost
+    pub sent : Appends before.held after.held (done ++ taken)
+
+  -- a session from its end: the bytes that it read and wrote, its account, and the journals that it left
+  abbrev pub ServesBy : SettingOf W → Outside → Outside → Account → W → End → Type 0
+  ServesBy set before after account last ends.Usage = ⊥
+  ServesBy set before after account last ends.Mem = AnsweredBy set before after account last
+  ServesBy set before after account last ends.ReadFault =
+      (before.read_faults < after.read_faults) × CompletedBy set before after account last ends.ReadFault
+  ServesBy set before after account last ends.WriteFault =
+      (before.write_faults < after.write_faults) × CutOffBy set before after account last
+  ServesBy set before after account last end = CompletedBy set before after account last end
+
+-- ---- a whole session of one caller, whose requests are answered over its own journals
+
+-- `ServicedBy`, of one caller
+abbrev pub Serviced : Setting → Outside → Outside → List Exchange → Account → World → Type 0
+Serviced set before after exchanges account last = ServicedBy IsServed set before after exchanges account last
+
+-- `AnsweredBy`, of one caller
+abbrev pub Answered : Setting → Outside → Outside → Account → World → Type 0
+Answered set before after account last = AnsweredBy IsServed set before after account last
+
+-- `CompletedBy`, of one caller
+abbrev pub Completed : Setting → Outside → Outside → Account → World → End → Type 0
+Completed set before after account last end = CompletedBy IsServed set before after account last end
+
+-- `CutOffBy`, of one caller
+abbrev pub CutOff : Setting → Outside → Outside → Account → World → Type 0
+CutOff set before after account last = CutOffBy IsServed set before after account last
+
+-- `ServesBy`, of one caller
 abbrev pub Serves : Setting → Outside → Outside → Account → World → End → Type 0
-Serves set before after account last ends.Usage = ⊥
-Serves set before after account last ends.Mem = Answered set before after account last
-Serves set before after account last ends.ReadFault =
-    (before.read_faults < after.read_faults) × Completed set before after account last ends.ReadFault
-Serves set before after account last ends.WriteFault =
-    (before.write_faults < after.write_faults) × CutOff set before after account last
-Serves set before after account last end = Completed set before after account last end
+Serves set before after account last end = ServesBy IsServed set before after account last end

@@ -9,7 +9,7 @@ use Rattle.ecr_model.specs.declared.outcome.End.TheVariants as ends
 use Rattle.ecr_model.specs.Commands.{IsSession, RunsSession, SaysUsage, fresh_session}
 use Rattle.ecr_model.specs.Limits.{standard}
 use Rattle.ecr_model.specs.Scripts.{World, fresh}
-use Rattle.ecr_model.specs.Sessions.{Outside, Serves}
+use Rattle.ecr_model.specs.Sessions.{IsServed, Outside, Serves}
 use Rattle.ecr_model.proofs.CommandLemmas.{IsSession-unique}
 use Rattle.ecr_desk.specs.Desks.{StillState}
 use Rattle.ecr_session.proofs.StartLemmas.{Serves-nothing}
@@ -31,7 +31,7 @@ RunsSession-nothing sites fixed before cuts end none mem = record {
   moments = [];
   places = [];
   last = fresh;
-  serves = Serves-nothing (fresh_session sites fixed) before (record { moments = []; places = []; cuts = cuts }) end
+  serves = Serves-nothing IsServed (fresh_session sites fixed) before (record { moments = []; places = []; cuts = cuts }) end
       (ap (λ cs. record { moments = []; places = []; cuts = cs }) none) mem;
 }
 

@@ -1,5 +1,5 @@
 -- What a request's turns come to as an answer.
-use Rattle.std.proofs.Common.{◌≡◌, ◌≤◌, ◌+◌, ◌-◌, ◌∙◌, inl, inr, ℕ, Bool, true, false, List, [], ◌++◌, Option, None, Some, Err, codes, refl, sym, ap, subst, append-nil, append_assoc, arith}
+use Rattle.std.proofs.Common.{◌≡◌, ◌+◌, ◌-◌, ◌∙◌, inl, inr, ℕ, Bool, true, false, List, [], ◌++◌, Option, None, Err, codes, refl, sym, ap, subst, arith}
 use Rattle.std.proofs.lemmas.Bool.{cond-true, cond-false}
 use Rattle.ecr_model.specs.declared.call.Call.{Call}
 use Rattle.ecr_model.specs.declared.call.Page.{Page}
@@ -18,24 +18,21 @@ use Rattle.ecr_model.specs.declared.reply.Reply.{Reply}
 use Rattle.ecr_model.specs.declared.reply.Reply.TheVariants.{Refused}
 use Rattle.ecr_model.specs.declared.reply.SiteReply.{SiteReply}
 use Rattle.ecr_model.specs.Actions.{Asked, cell, site, many, Reading, asks, refuses, reading}
-use Rattle.ecr_model.specs.Contents.{named_by, AreContents}
+use Rattle.ecr_model.specs.Contents.{AreContents}
 use Rattle.ecr_model.specs.Posed.{Posed, api, unrouted, base_of, is_json_call, posed_of, posed_script, posed_bytes, target_of}
 use Rattle.ecr_model.specs.Rendered.{json, refused}
 use Rattle.ecr_model.specs.Replies.{empty_reply, failed_reply, is_head}
 use Rattle.ecr_model.specs.Requests.{Decided, plain, asked_script, call_script, describe_script, of_site, page_script, site_script}
-use Rattle.ecr_model.specs.Scripts.{ends, Realm, World, run_to, count_changed}
+use Rattle.ecr_model.specs.Scripts.{ends, count_changed}
 use Rattle.ecr_model.specs.Views.{places_of}
-use Rattle.ecr_model.proofs.ScriptLemmas.{count_changed-append, count_changed-run}
-use Rattle.ecr_model.specs.Sessions.{left_by, named_to, outcome_of, script_of, written}
 use Rattle.ecr_model.specs.Stream.{closes}
 use Rattle.ecr_api.specs.Readings.{Reads}
 use Rattle.ecr_api.specs.declared.asked.ApiRefusal.{ApiRefusal}
 use Rattle.ecr_api.specs.declared.asked.ApiRefusal.TheVariants as api_refusals
-use Rattle.ecr_desk.specs.Desks.{DeskState, StillState, still_of, IsStill, run_on, Runs, RunsTo}
-use Rattle.ecr_desk.proofs.DeskLemmas.{Ran-runs, Stopped-runs_to, first_places-le}
+use Rattle.ecr_desk.specs.Desks.{DeskState}
 use Rattle.ecr_http.specs.Replies.{reply_bytes}
 use Rattle.ecr_http.specs.declared.reply.HttpReply.{HttpReply}
-use Rattle.ecr_session.specs.Serving.{Answers, AnswersAlone, IsAnswered, IsFailed, cut_of}
+use Rattle.ecr_session.specs.Serving.{Answers, cut_of}
 use Rattle.ecr_session.specs.Turns.{IsReplied, RanWith, StoppedWith}
 use Rattle.ecr_session.proofs.TurnLemmas.{RanWith-ends, RanWith-then, StoppedWith-first, StoppedWith-then}
 
@@ -179,130 +176,40 @@ entries_of first last before after places one two counted = omega (arith, one, t
 
 pub Answers-replied : (before after : DeskState) (moment : ℕ) (request : Request) (reply : HttpReply) (sealed : Option Digest) (old places : List Place) (first last : ℕ) (cut : Cut) → cut ≡ cut_of (last - first) false sealed → old ≡ [] → first ≡ before.made → last ≡ after.made
     → IsReplied before after (posed_of before.realm.served request) moment (closes request) reply sealed old places
-    → Answers before after moment request (Some reply) places cut
+    → (contents : List (List ℕ)) × Answers before after moment request contents (reply_bytes reply) places cut
 Answers-replied before after moment request reply sealed old places first last cut is_cut empty first_is last_is r =
     let told : places ≡ r.ran.places = r.ran.added ∙ ap (λ l. l ++ r.ran.places) empty in
     let count : last - first ≡ count_changed r.ran.places = entries_of first last before.made after.made (count_changed r.ran.places) first_is last_is r.ran.ran.counted in
-    subst (λ k. Answers before after moment request (Some reply) places k) (sym is_cut)
-    (subst (λ ps. Answers before after moment request (Some reply) ps (cut_of (last - first) false sealed)) (sym told) (inl (record {
-      answer = r.answer;
-      ran = r.ran.ran;
-      contents = r.contents;
-      carries = r.carries;
-      bytes = r.bytes;
-      entries = count;
-      served = refl;
-      sealed_is = r.sealed_is;
-    })))
+    let contents : List (List ℕ) = r.contents in (
+      contents,
+      subst (λ k. Answers before after moment request contents (reply_bytes reply) places k) (sym is_cut)
+      (subst (λ ps. Answers before after moment request contents (reply_bytes reply) ps (cut_of (last - first) false sealed)) (sym told) (inl (record {
+        answer = r.answer;
+        ran = r.ran.ran;
+        carries = r.carries;
+        bytes_are = r.bytes;
+        entries = count;
+        served = refl;
+        sealed_is = r.sealed_is;
+      }))),
+    )
 
 pub Answers-failed : (before after : DeskState) (moment : ℕ) (request : Request) (old places : List Place) (first last : ℕ) (cut : Cut) → cut ≡ cut_of (last - first) true None → old ≡ [] → first ≡ before.made → last ≡ after.made
     → StoppedWith before after (posed_script (posed_of before.realm.served request) moment) old places
-    → Answers before after moment request None places cut
+    → (contents : List (List ℕ)) × Answers before after moment request contents (failed_reply (is_head request) (closes request)) places cut
 Answers-failed before after moment request old places first last cut is_cut empty first_is last_is s =
     let told : places ≡ s.places = s.added ∙ ap (λ l. l ++ s.places) empty in
     let turns : List Place = places_of s.stopped.turns in
-    subst (λ k. Answers before after moment request None places k) (sym is_cut) (inr (record {
-      stopped = s.stopped;
-      rest = s.rest;
-      parts = s.parts ∙ ap (λ l. l ++ s.rest) (sym told);
-      bytes = refl;
-      entries = entries_of first last before.made after.made (count_changed turns) first_is last_is s.stopped.counted;
-      failed = refl;
-      none_sealed = refl;
-    }))
-
--- ---- of a caller that is alone
-
--- a request that was served didn't fail
-not_failed : (b : Bool) → b ≡ true → b ≡ false → ⊥
-not_failed b is other = absurd (let no : true ≡ false = sym is ∙ other in cc)
-
--- what is written, and what is left, where it didn't fail
-written-served : (realm : Realm) (world : World) (moment : ℕ) (cut : Cut) (request : Request) (contents : List (List ℕ)) → cut.failed ≡ false
-    → written realm world moment cut request contents ≡ posed_bytes (posed_of realm.served request) (closes request) (outcome_of realm world moment request).answer.reply contents
-unfolding written
-written-served realm world moment cut request contents served = cond-false cut.failed _ _ served
-
-named_to-served : (realm : Realm) (world : World) (moment : ℕ) (cut : Cut) (request : Request) → cut.failed ≡ false
-    → named_to realm world moment cut request ≡ named_by (outcome_of realm world moment request).answer.reply
-named_to-served realm world moment cut request served = cond-false cut.failed _ _ served
-
-left_by-served : (realm : Realm) (world : World) (moment : ℕ) (cut : Cut) (request : Request) → cut.failed ≡ false
-    → left_by realm world moment cut request ≡ (outcome_of realm world moment request).world
-unfolding left_by
-left_by-served realm world moment cut request served = cond-false cut.failed _ _ served
-
--- where it did
-written-failed : (realm : Realm) (world : World) (moment : ℕ) (cut : Cut) (request : Request) (contents : List (List ℕ)) → cut.failed ≡ true
-    → written realm world moment cut request contents ≡ failed_reply (is_head request) (closes request)
-unfolding written
-written-failed realm world moment cut request contents failed = cond-true cut.failed _ _ failed
-
-named_to-failed : (realm : Realm) (world : World) (moment : ℕ) (cut : Cut) (request : Request) → cut.failed ≡ true
-    → named_to realm world moment cut request ≡ []
-named_to-failed realm world moment cut request failed = cond-true cut.failed _ _ failed
-
-left_by-failed : (realm : Realm) (world : World) (moment : ℕ) (cut : Cut) (request : Request) → cut.failed ≡ true
-    → left_by realm world moment cut request ≡ run_to cut.entries realm world (script_of realm moment request)
-unfolding left_by
-left_by-failed realm world moment cut request failed = cond-true cut.failed _ _ failed
-
-AnswersAlone-answered : (before after : DeskState) (moment : ℕ) (request : Request) (reply : Option HttpReply) (places : List Place) (cut : Cut)
-    → IsStill before → IsAnswered before after moment request reply places cut
-    → AnswersAlone (still_of before) (still_of after) moment request reply places cut
-AnswersAlone-answered before after moment request reply places cut still a =
-    let desk : StillState = still_of before in
-    let script = script_of before.realm moment request in
-    let posed = posed_of before.realm.served request in
-    let runs : Runs desk (still_of after) script a.answer places = (Ran-runs before after script a.answer places still a.ran).runs in
-    let counted : count_changed places ≡ (run_on desk script).entries = ap count_changed runs.placed ∙ count_changed-run desk.realm desk.world script in
-    let digest : cut.sealed ≡ (run_on desk script).answer.sealed = a.sealed_is ∙ ap (λ (d : Decided). d.sealed) runs.answered in
-    record {
-      contents = a.contents;
-      carries = a.carries ∙ ap (λ (d : Decided). named_by d.reply) runs.answered
-          ∙ sym (named_to-served desk.realm desk.world moment cut request a.served);
-      bytes = a.bytes
-          ∙ ap (λ (d : Decided). posed_bytes posed (closes request) d.reply a.contents) runs.answered
-          ∙ sym (written-served desk.realm desk.world moment cut request a.contents a.served);
-      realm_stays = runs.realm_stays;
-      leaves = runs.left ∙ sym (left_by-served desk.realm desk.world moment cut request a.served);
-      counted = omega (arith, runs.counted, counted, a.entries);
-      counts = record { at_most = omega (arith, a.entries, counted); all = λ _. a.entries ∙ counted; sealed = λ _. digest; no_other = inr digest };
-      placed = record {
-        all = λ _. runs.placed;
-        first = ([], sym runs.placed ∙ sym (append-nil places));
-        changed = omega (arith, a.entries);
-      };
-    }
-
-AnswersAlone-failed : (before after : DeskState) (moment : ℕ) (request : Request) (reply : Option HttpReply) (places : List Place) (cut : Cut)
-    → IsStill before → IsFailed before after moment request reply places cut
-    → AnswersAlone (still_of before) (still_of after) moment request reply places cut
-AnswersAlone-failed before after moment request reply places cut still f =
-    let desk : StillState = still_of before in
-    let script = script_of before.realm moment request in
-    let turns : List Place = places_of f.stopped.turns in
-    let runs : RunsTo desk (still_of after) script turns = Stopped-runs_to before after script still f.stopped in
-    let within : count_changed turns ≤ (run_on desk script).entries = first_places-le desk script turns runs.rest runs.placed in
-    record {
-      contents = [];
-      carries = sym (named_to-failed desk.realm desk.world moment cut request f.failed);
-      bytes = f.bytes ∙ sym (written-failed desk.realm desk.world moment cut request [] f.failed);
-      realm_stays = runs.realm_stays;
-      leaves = runs.left ∙ ap (λ n. run_to n desk.realm desk.world script) (sym f.entries)
-          ∙ sym (left_by-failed desk.realm desk.world moment cut request f.failed);
-      counted = omega (arith, runs.counted, f.entries);
-      counts = record { at_most = omega (arith, f.entries, within); all = λ e. absurd (not_failed cut.failed f.failed e); sealed = λ e. absurd (not_failed cut.failed f.failed e); no_other = inl f.none_sealed };
-      placed = record {
-        all = λ e. absurd (not_failed cut.failed f.failed e);
-        first = (f.rest ++ runs.rest, runs.placed ∙ ap (λ ps. ps ++ runs.rest) f.parts ∙ append_assoc places f.rest runs.rest);
-        changed = omega (arith, f.entries, ap count_changed f.parts, count_changed-append places f.rest);
-      };
-    }
-
--- the answers of a desk whose caller is alone are those of runs
-pub Answers-alone : (before after : DeskState) (moment : ℕ) (request : Request) (reply : Option HttpReply) (places : List Place) (cut : Cut)
-    → IsStill before → Answers before after moment request reply places cut
-    → AnswersAlone (still_of before) (still_of after) moment request reply places cut
-Answers-alone before after moment request reply places cut still (inl a) = AnswersAlone-answered before after moment request reply places cut still a
-Answers-alone before after moment request reply places cut still (inr f) = AnswersAlone-failed before after moment request reply places cut still f
+    let none : List (List ℕ) = [] in (
+      none,
+      subst (λ k. Answers before after moment request none (failed_reply (is_head request) (closes request)) places k) (sym is_cut) (inr (record {
+        stopped = s.stopped;
+        rest = s.rest;
+        parts = s.parts ∙ ap (λ l. l ++ s.rest) (sym told);
+        carries_none = refl;
+        bytes_are = refl;
+        entries = entries_of first last before.made after.made (count_changed turns) first_is last_is s.stopped.counted;
+        failed = refl;
+        none_sealed = refl;
+      })),
+    )

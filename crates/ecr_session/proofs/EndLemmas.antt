@@ -6,8 +6,8 @@ use Rattle.ecr_model.specs.declared.http.Request.{Request}
 use Rattle.ecr_model.specs.declared.outcome.End.{End}
 use Rattle.ecr_model.specs.declared.outcome.End.TheVariants as ends
 use Rattle.ecr_model.specs.Replies.{bad_reply, long_reply, continue_reply, interim}
-use Rattle.ecr_model.specs.Scripts.{World}
-use Rattle.ecr_model.specs.Sessions.{Account, Outside, Setting, Exchange, AreServed, Completed, CutOff, Ends, IsUnspent, Serviced, Serves, last_words, max_read, refusal_of, requests_of, sent_to, stands}
+use Rattle.ecr_desk.specs.Desks.{DeskState}
+use Rattle.ecr_model.specs.Sessions.{Account, Outside, SettingOf, Exchange, Chain, CompletedBy, CutOffBy, Ends, IsUnspent, ServicedBy, last_words, max_read, refusal_of, requests_of, sent_to, stands}
 use Rattle.ecr_model.specs.Stream.{Point, start, grown, Begins, StopsBy, Lacks, Tail, Ending, ended, closed, truncated, bad_at, long_at, more}
 use Rattle.ecr_model.proofs.StreamLemmas.{Begins-append, Begins-length}
 use Rattle.ecr_http.specs.Reading.{Nexts, bytes_read}
@@ -15,7 +15,7 @@ use Rattle.ecr_http.specs.Reading as reading
 use Rattle.ecr_http.specs.Sends.{Sends}
 use Rattle.ecr_http.specs.declared.events.Event.TheVariants as events
 use Rattle.ecr_http.specs.declared.write.Sent.TheVariants.{WriteFault}
-use Rattle.ecr_session.specs.Serving.{SoFar, SendsLast}
+use Rattle.ecr_session.specs.Serving.{SoFar, SendsLast, IsServedOver, ServesOver}
 
 -- ---- what was read
 
@@ -37,20 +37,20 @@ unspent_grown read got requests point begins within =
     omega (arith, within, Begins-length (start (read ++ got)) requests (grown point got) (begins_grown read got requests point begins))
 
 -- nothing was asked of the clock
-serviced_kept : (set : Setting) (before mid after : Outside) (exchanges : List Exchange) (account : Account) (last : World)
-    → after.told ≡ mid.told → Serviced set before mid exchanges account last → Serviced set before after exchanges account last
+serviced_kept : (set : SettingOf DeskState) (before mid after : Outside) (exchanges : List Exchange) (account : Account) (last : DeskState)
+    → after.told ≡ mid.told → ServicedBy IsServedOver set before mid exchanges account last → ServicedBy IsServedOver set before after exchanges account last
 serviced_kept set before mid after exchanges account last told s = record {
   says = s.says;
-  served = subst (λ t. AreServed (stands set set.first before.told) exchanges (stands set last t)) (sym told) s.served;
+  served = subst (λ t. Chain IsServedOver (stands set set.first before.told) exchanges (stands set last t)) (sym told) s.served;
 }
 
 -- ---- the ends of which all is known: all requests were answered, and this is what follows them
 
-ends_by : (set : Setting) (before mid after : Outside) (point : Point) (account : Account) (last : World) (s : SoFar set before mid point account last)
+ends_by : (set : SettingOf DeskState) (before mid after : Outside) (point : Point) (account : Account) (last : DeskState) (s : SoFar set before mid point account last)
     (got : List ℕ) (over : Bool) (tail : Tail) (end : End) → point.closed ≡ false → after.told ≡ mid.told → Consumes mid.left after.left got
     → Lacks over (grown point got) tail → (over ≡ true → IsAtEnd after.left) → Appends mid.held after.held (last_words tail) → Ends end tail.ending (length (s.read ++ got))
     → bytes_read (grown point got) ≤ max_read → IsUnspent end tail.ending (length (s.read ++ got))
-    → Completed set before after account last end
+    → CompletedBy IsServedOver set before after account last end
 ends_by set before mid after point account last s got over tail end opened told consumed lacks at_end sent fits within unspent = record {
   read = s.read ++ got;
   over = over;
@@ -71,11 +71,11 @@ ends_by set before mid after point account last s got over tail end opened told 
 }
 
 -- where nothing is replied to what follows
-ends_silently : (set : Setting) (before mid after : Outside) (point : Point) (account : Account) (last : World) (s : SoFar set before mid point account last)
+ends_silently : (set : SettingOf DeskState) (before mid after : Outside) (point : Point) (account : Account) (last : DeskState) (s : SoFar set before mid point account last)
     (got : List ℕ) (over : Bool) (ending : Ending) (end : End) → point.closed ≡ false → after.told ≡ mid.told → Consumes mid.left after.left got
     → reading.Shows over (grown point got) mid.held after.held ending → refusal_of ending ≡ [] → (over ≡ true → IsAtEnd after.left) → Ends end ending (length (s.read ++ got))
     → bytes_read (grown point got) ≤ max_read → IsUnspent end ending (length (s.read ++ got))
-    → Completed set before after account last end
+    → CompletedBy IsServedOver set before after account last end
 ends_silently set before mid after point account last s got over ending end opened told consumed shows none at_end fits within unspent =
     ends_by set before mid after point account last s got over (record { due = shows.0; ending = ending }) end opened told consumed shows.1 at_end
     (subst (λ l. Appends mid.held after.held (interim shows.0 ++ l)) (sym none) (subst (Appends mid.held after.held) (sym (append-nil (interim shows.0))) shows.2)) fits within unspent
@@ -83,27 +83,27 @@ ends_silently set before mid after point account last s got over ending end open
 not_over : {P : Type 0} → false ≡ true → P
 not_over e = absurd (let no : false ≡ true = e in cc)
 
-pub Serves-whole : (set : Setting) (before mid after : Outside) (point q : Point) (account : Account) (last : World) → SoFar set before mid point account last
-    → point.closed ≡ false → Nexts mid.left mid.held point after.left after.held q events.End → after.told ≡ mid.told → Serves set before after account last ends.Whole
+pub Serves-whole : (set : SettingOf DeskState) (before mid after : Outside) (point q : Point) (account : Account) (last : DeskState) → SoFar set before mid point account last
+    → point.closed ≡ false → Nexts mid.left mid.held point after.left after.held q events.End → after.told ≡ mid.told → ServesOver set before after account last ends.Whole
 Serves-whole set before mid after point q account last s opened n told =
     ends_silently set before mid after point account last s n.got true ended ends.Whole opened told n.consumed n.gives.0 refl (λ e. n.gives.1) (inl refl) n.within (unspent_grown s.read n.got (requests_of s.exchanges) point s.begins n.unspent)
 
-pub Serves-truncated : (set : Setting) (before mid after : Outside) (point q : Point) (account : Account) (last : World) (at : ℕ) → SoFar set before mid point account last
-    → point.closed ≡ false → Nexts mid.left mid.held point after.left after.held q (events.Truncated at) → after.told ≡ mid.told → Serves set before after account last (ends.Truncated at)
+pub Serves-truncated : (set : SettingOf DeskState) (before mid after : Outside) (point q : Point) (account : Account) (last : DeskState) (at : ℕ) → SoFar set before mid point account last
+    → point.closed ≡ false → Nexts mid.left mid.held point after.left after.held q (events.Truncated at) → after.told ≡ mid.told → ServesOver set before after account last (ends.Truncated at)
 Serves-truncated set before mid after point q account last at s opened n told =
     ends_silently set before mid after point account last s n.got true (truncated at) (ends.Truncated at) opened told n.consumed n.gives.0 refl (λ e. n.gives.1) refl n.within (unspent_grown s.read n.got (requests_of s.exchanges) point s.begins n.unspent)
 
-pub Serves-fault : (set : Setting) (before mid after : Outside) (point q : Point) (account : Account) (last : World) → SoFar set before mid point account last
+pub Serves-fault : (set : SettingOf DeskState) (before mid after : Outside) (point q : Point) (account : Account) (last : DeskState) → SoFar set before mid point account last
     → point.closed ≡ false → Nexts mid.left mid.held point after.left after.held q events.ReadFault → after.told ≡ mid.told → mid.read_faults < after.read_faults
-    → Serves set before after account last ends.ReadFault
+    → ServesOver set before after account last ends.ReadFault
 Serves-fault set before mid after point q account last s opened n told rose =
     let later = s.reads_later in (
       omega arith,
       ends_silently set before mid after point account last s n.got false more ends.ReadFault opened told n.consumed n.gives refl not_over refl n.within (unspent_grown s.read n.got (requests_of s.exchanges) point s.begins n.unspent),
     )
 
-pub Serves-spent : (set : Setting) (before mid after : Outside) (point q : Point) (account : Account) (last : World) → SoFar set before mid point account last
-    → point.closed ≡ false → Nexts mid.left mid.held point after.left after.held q events.Spent → after.told ≡ mid.told → Serves set before after account last ends.Spent
+pub Serves-spent : (set : SettingOf DeskState) (before mid after : Outside) (point q : Point) (account : Account) (last : DeskState) → SoFar set before mid point account last
+    → point.closed ≡ false → Nexts mid.left mid.held point after.left after.held q events.Spent → after.told ≡ mid.told → ServesOver set before after account last ends.Spent
 Serves-spent set before mid after point q account last s opened n told =
     let all = Begins-length (start (s.read ++ n.got)) (requests_of s.exchanges) (grown point n.got) (begins_grown s.read n.got (requests_of s.exchanges) point s.begins) in
     let spent = n.gives.1 in
@@ -112,8 +112,8 @@ Serves-spent set before mid after point q account last s opened n told =
 
 -- ---- no memory
 
-pub Serves-mem : (set : Setting) (before mid after : Outside) (point q : Point) (account : Account) (last : World) → SoFar set before mid point account last
-    → point.closed ≡ false → Nexts mid.left mid.held point after.left after.held q events.Mem → after.told ≡ mid.told → Serves set before after account last ends.Mem
+pub Serves-mem : (set : SettingOf DeskState) (before mid after : Outside) (point q : Point) (account : Account) (last : DeskState) → SoFar set before mid point account last
+    → point.closed ≡ false → Nexts mid.left mid.held point after.left after.held q events.Mem → after.told ≡ mid.told → ServesOver set before after account last ends.Mem
 Serves-mem set before mid after point q account last s opened n told = record {
   read = s.read ++ n.got;
   exchanges = s.exchanges;
@@ -129,10 +129,10 @@ Serves-mem set before mid after point q account last s opened n told = record {
 }
 
 -- there was no room for what is said, and nothing was read
-pub Serves-no_room : (set : Setting) (before mid : Outside) (point : Point) (account other : Account) (last : World) → SoFar set before mid point account last
-    → point.closed ≡ false → other ≡ account → Serves set before mid other last ends.Mem
+pub Serves-no_room : (set : SettingOf DeskState) (before mid : Outside) (point : Point) (account other : Account) (last : DeskState) → SoFar set before mid point account last
+    → point.closed ≡ false → other ≡ account → ServesOver set before mid other last ends.Mem
 Serves-no_room set before mid point account other last s opened same =
-    subst (λ a. Serves set before mid a last ends.Mem) (sym same) (record {
+    subst (λ a. ServesOver set before mid a last ends.Mem) (sym same) (record {
       read = s.read;
       exchanges = s.exchanges;
       point = point;
@@ -149,9 +149,9 @@ Serves-no_room set before mid point account other last s opened same =
 -- ---- a write that failed
 
 -- the client was being told to go on
-pub Serves-untold : (set : Setting) (before mid after : Outside) (point q : Point) (account : Account) (last : World) → SoFar set before mid point account last
+pub Serves-untold : (set : SettingOf DeskState) (before mid after : Outside) (point q : Point) (account : Account) (last : DeskState) → SoFar set before mid point account last
     → point.closed ≡ false → Nexts mid.left mid.held point after.left after.held q events.WriteFault → after.told ≡ mid.told → mid.write_faults < after.write_faults
-    → Serves set before after account last ends.WriteFault
+    → ServesOver set before after account last ends.WriteFault
 Serves-untold set before mid after point q account last s opened n told rose =
     let later = s.writes_later in
     let cut : Sends mid.held after.held continue_reply WriteFault = n.gives.1 in (
@@ -177,11 +177,11 @@ Serves-untold set before mid after point q account last s opened n told rose =
 
 -- ---- what is no request was replied to, or the reply was cut short
 
-refused : (set : Setting) (before mid between after : Outside) (point : Point) (account : Account) (last : World) (s : SoFar set before mid point account last)
+refused : (set : SettingOf DeskState) (before mid between after : Outside) (point : Point) (account : Account) (last : DeskState) (s : SoFar set before mid point account last)
     (got : List ℕ) (ending : Ending) (expected end : End) → point.closed ≡ false → Consumes mid.left after.left got → after.told ≡ mid.told
     → reading.Shows false (grown point got) mid.held between.held ending → SendsLast between.held after.held (refusal_of ending) expected end
     → Ends expected ending (length (s.read ++ got)) → bytes_read (grown point got) ≤ max_read → IsUnspent expected ending (length (s.read ++ got))
-    → ((end ≡ expected) × Completed set before after account last expected) ⊎ ((end ≡ ends.WriteFault) × CutOff set before after account last)
+    → ((end ≡ expected) × CompletedBy IsServedOver set before after account last expected) ⊎ ((end ≡ ends.WriteFault) × CutOffBy IsServedOver set before after account last)
 refused set before mid between after point account last s got ending expected end opened consumed told shows (inl done) fits within unspent =
     inl (
       done.0,
@@ -220,29 +220,29 @@ refused set before mid between after point account last s got ending expected en
       },
     )
 
-serves_refused : (set : Setting) (before mid after : Outside) (account : Account) (last : World) (expected end : End)
-    → (Completed set before after account last expected → Serves set before after account last expected) → before.write_faults ≤ mid.write_faults
+serves_refused : (set : SettingOf DeskState) (before mid after : Outside) (account : Account) (last : DeskState) (expected end : End)
+    → (CompletedBy IsServedOver set before after account last expected → ServesOver set before after account last expected) → before.write_faults ≤ mid.write_faults
     → (end ≡ ends.WriteFault → mid.write_faults < after.write_faults)
-    → ((end ≡ expected) × Completed set before after account last expected) ⊎ ((end ≡ ends.WriteFault) × CutOff set before after account last) → Serves set before after account last end
+    → ((end ≡ expected) × CompletedBy IsServedOver set before after account last expected) ⊎ ((end ≡ ends.WriteFault) × CutOffBy IsServedOver set before after account last) → ServesOver set before after account last end
 serves_refused set before mid after account last expected end keep later cause (inl done) =
-    subst (λ (e : End). Serves set before after account last e) (sym done.0) (keep done.1)
+    subst (λ (e : End). ServesOver set before after account last e) (sym done.0) (keep done.1)
 serves_refused set before mid after account last expected end keep later cause (inr cut) =
     let rose = cause cut.0 in
-    subst (λ (e : End). Serves set before after account last e) (sym cut.0) (omega arith, cut.1)
+    subst (λ (e : End). ServesOver set before after account last e) (sym cut.0) (omega arith, cut.1)
 
-pub Serves-bad : (set : Setting) (before mid between after : Outside) (point q : Point) (account : Account) (last : World) (at : ℕ) (end : End) → SoFar set before mid point account last
+pub Serves-bad : (set : SettingOf DeskState) (before mid between after : Outside) (point q : Point) (account : Account) (last : DeskState) (at : ℕ) (end : End) → SoFar set before mid point account last
     → point.closed ≡ false → Nexts mid.left mid.held point between.left between.held q (events.Bad at) → after.left ≡ between.left → after.told ≡ mid.told
     → SendsLast between.held after.held bad_reply (ends.Bad at) end → mid.write_faults ≤ between.write_faults → (end ≡ ends.WriteFault → between.write_faults < after.write_faults)
-    → Serves set before after account last end
+    → ServesOver set before after account last end
 Serves-bad set before mid between after point q account last at end s opened n left told sends later cause =
     let so_far = s.writes_later in
     serves_refused set before between after account last (ends.Bad at) end (λ done. done) (omega arith) cause
     (refused set before mid between after point account last s n.got (bad_at at) (ends.Bad at) end opened (subst (λ l. Consumes mid.left l n.got) (sym left) n.consumed) told n.gives sends refl n.within tt)
 
-pub Serves-long : (set : Setting) (before mid between after : Outside) (point q : Point) (account : Account) (last : World) (at limit : ℕ) (end : End) → SoFar set before mid point account last
+pub Serves-long : (set : SettingOf DeskState) (before mid between after : Outside) (point q : Point) (account : Account) (last : DeskState) (at limit : ℕ) (end : End) → SoFar set before mid point account last
     → point.closed ≡ false → Nexts mid.left mid.held point between.left between.held q (events.TooLong at limit) → after.left ≡ between.left → after.told ≡ mid.told
     → SendsLast between.held after.held (long_reply limit) (ends.TooLong at limit) end → mid.write_faults ≤ between.write_faults → (end ≡ ends.WriteFault → between.write_faults < after.write_faults)
-    → Serves set before after account last end
+    → ServesOver set before after account last end
 Serves-long set before mid between after point q account last at limit end s opened n left told sends later cause =
     let so_far = s.writes_later in
     serves_refused set before between after account last (ends.TooLong at limit) end (λ done. done) (omega arith) cause
@@ -250,8 +250,8 @@ Serves-long set before mid between after point q account last at limit end s ope
 
 -- ---- the last request closes the session
 
-pub Completed-closed : (set : Setting) (before after : Outside) (point : Point) (account : Account) (last : World) → SoFar set before after point account last → point.closed ≡ true
-    → Completed set before after account last ends.Whole
+pub Completed-closed : (set : SettingOf DeskState) (before after : Outside) (point : Point) (account : Account) (last : DeskState) → SoFar set before after point account last → point.closed ≡ true
+    → CompletedBy IsServedOver set before after account last ends.Whole
 unfolding interim
 Completed-closed set before after point account last s shut =
     let tail : Tail = record { due = false; ending = closed } in

@@ -6,4 +6,5 @@ pub mod FixedLemmas
 pub mod HostLemmas
 pub mod ServingLemmas
 pub mod StartLemmas
+pub mod StillLemmas
 pub mod TurnLemmas

@@ -1,5 +1,5 @@
 -- How a session goes on, request after request.
-use Rattle.std.proofs.Common.{◌≡◌, ℕ, ◌<◌, ◌≤◌, inl, false, List, [], ◌∷◌, ◌++◌, map, refl, sym, ap, ◌∙◌, subst, arith, append_assoc, None, Some, Option}
+use Rattle.std.proofs.Common.{◌≡◌, ℕ, ◌<◌, ◌≤◌, inl, inr, false, List, [], ◌∷◌, ◌++◌, map, refl, sym, ap, ◌∙◌, subst, arith, None, Some, Option}
 use Rattle.std.proofs.KnownBytes.{Appends-trans, Consumes-trans}
 use Rattle.std.proofs.lemmas.List.{map-append}
 use Rattle.std.specs.Io.KnownBytes.{Consumes, Appends}
@@ -9,29 +9,28 @@ use Rattle.ecr_model.specs.declared.outcome.Cut.{Cut}
 use Rattle.ecr_model.specs.declared.outcome.End.{End}
 use Rattle.ecr_model.specs.declared.outcome.End.TheVariants as ends
 use Rattle.ecr_model.specs.Replies.{interim, is_head}
-use Rattle.ecr_model.specs.Scripts.{World}
-use Rattle.ecr_model.specs.Sessions.{Account, Outside, Setting, Exchange, Standing, CutOff, IsServed, IsTime, Serviced, account_of, answer_to, is_waiting, requests_of, sent_to, stands}
+use Rattle.ecr_model.specs.Sessions.{Account, Outside, SettingOf, Exchange, StandingOf, CutOffBy, IsTime, ServicedBy, account_of, answer_to, is_waiting, requests_of, sent_to, stands}
 use Rattle.ecr_model.specs.Stream.{Point, start, closes, grown, past, Begins}
 use Rattle.ecr_model.proofs.SessionLemmas.{Chain-more, sent_to-more}
 use Rattle.ecr_model.proofs.StreamLemmas.{Begins-more}
-use Rattle.ecr_desk.specs.Desks.{StillState}
+use Rattle.ecr_desk.specs.Desks.{DeskState}
 use Rattle.ecr_http.specs.Reading.{Nexts}
 use Rattle.ecr_http.specs.Sends.{Sends}
 use Rattle.ecr_http.specs.declared.events.Event.TheVariants as events
 use Rattle.ecr_http.specs.declared.reply.HttpReply.{HttpReply}
 use Rattle.ecr_http.specs.declared.write.Sent.{Sent}
 use Rattle.ecr_http.specs.declared.write.Sent.TheVariants.{Done, WriteFault}
-use Rattle.ecr_session.specs.Serving.{SoFar, HasCome, GoesOn, Answered, AnswersAlone, ServesRequest, account_in, reply_bytes, standing_of, with_exchange}
+use Rattle.ecr_session.specs.Serving.{SoFar, HasCome, GoesOn, Answered, Answers, IsServedOver, ServesRequest, account_in, reply_bytes, standing_of, with_exchange}
 use Rattle.ecr_session.specs.declared.session.Session.{Session}
 use Rattle.ecr_session.proofs.EndLemmas.{begins_grown, within_grown, Completed-closed}
 
 -- room for more changes nothing
-pub HasCome-room : (set : Setting) (before mid : Outside) (old now : Session) (seen : StillState) → account_in now ≡ account_in old → now.reader ≡ old.reader
+pub HasCome-room : (set : SettingOf DeskState) (before mid : Outside) (old now : Session) (seen : DeskState) → account_in now ≡ account_in old → now.reader ≡ old.reader
     → HasCome set before mid old seen → HasCome set before mid now seen
 HasCome-room set before mid old now seen account reader s = record {
   realm_stays = s.realm_stays;
-  so_far = subst (λ a. SoFar set before mid now.reader a seen.world) (sym account)
-      (subst (λ (p : Point). SoFar set before mid p (account_in old) seen.world) (sym reader) s.so_far);
+  so_far = subst (λ a. SoFar set before mid now.reader a seen) (sym account)
+      (subst (λ (p : Point). SoFar set before mid p (account_in old) seen) (sym reader) s.so_far);
 }
 
 -- ---- a request
@@ -48,26 +47,26 @@ requests_of-more : (es : List Exchange) (e : Exchange) (request : Request) → e
 requests_of-more es e request is = map-append (λ (x : Exchange). x.request) es (e ∷ []) ∙ ap (λ r. requests_of es ++ r ∷ []) is
 
 -- the step of an exchange, between standings of the setting
-step_in : (set : Setting) (mid between after : Outside) (seen later : StillState) (e : Exchange) → seen.realm ≡ set.realm → between.told ≡ mid.told
-    → IsServed (standing_of set.fixed between seen) e (standing_of set.fixed after later)
-    → IsServed (stands set seen.world mid.told) e (stands set later.world after.told)
+step_in : (set : SettingOf DeskState) (mid between after : Outside) (seen later : DeskState) (e : Exchange) → seen.realm ≡ set.realm → between.told ≡ mid.told
+    → IsServedOver (standing_of set.fixed between seen) e (standing_of set.fixed after later)
+    → IsServedOver (stands set seen mid.told) e (stands set later after.told)
 step_in set mid between after seen later e realm told v =
-    let first : standing_of set.fixed between seen ≡ stands set seen.world mid.told =
-    ap (λ r. record { realm = r; world = seen.world; fixed = set.fixed; told = between.told }) realm
-    ∙ ap (λ t. record { realm = set.realm; world = seen.world; fixed = set.fixed; told = t }) told in
-    let last : standing_of set.fixed after later ≡ stands set later.world after.told =
-    ap (λ r. record { realm = r; world = later.world; fixed = set.fixed; told = after.told }) (v.realm_stays ∙ realm) in
-    subst (λ (s : Standing). IsServed (stands set seen.world mid.told) e s) last
-    (subst (λ (s : Standing). IsServed s e (standing_of set.fixed after later)) first v)
+    let first : standing_of set.fixed between seen ≡ stands set seen mid.told =
+    ap (λ r. record { realm = r; world = seen; fixed = set.fixed; told = between.told }) realm
+    ∙ ap (λ t. record { realm = set.realm; world = seen; fixed = set.fixed; told = t }) told in
+    let last : standing_of set.fixed after later ≡ stands set later after.told =
+    ap (λ r. record { realm = r; world = later; fixed = set.fixed; told = after.told }) (v.realm_stays ∙ realm) in
+    subst (λ (s : StandingOf DeskState). IsServedOver (stands set seen mid.told) e s) last
+    (subst (λ (s : StandingOf DeskState). IsServedOver s e (standing_of set.fixed after later)) first v)
 
 -- one request more was serviced
-serviced_more : (set : Setting) (before mid between after : Outside) (es : List Exchange) (e : Exchange) (account : Account) (seen later : StillState)
-    → seen.realm ≡ set.realm → between.told ≡ mid.told → Serviced set before mid es account seen.world
-    → IsServed (standing_of set.fixed between seen) e (standing_of set.fixed after later)
-    → Serviced set before after (es ++ e ∷ []) (with_exchange account e) later.world
+serviced_more : (set : SettingOf DeskState) (before mid between after : Outside) (es : List Exchange) (e : Exchange) (account : Account) (seen later : DeskState)
+    → seen.realm ≡ set.realm → between.told ≡ mid.told → ServicedBy IsServedOver set before mid es account seen
+    → IsServedOver (standing_of set.fixed between seen) e (standing_of set.fixed after later)
+    → ServicedBy IsServedOver set before after (es ++ e ∷ []) (with_exchange account e) later
 serviced_more set before mid between after es e account seen later realm told s v = record {
   says = ap (λ a. with_exchange a e) s.says ∙ sym (account_of-more es e);
-  served = Chain-more IsServed (stands set set.first before.told) (stands set seen.world mid.told) (stands set later.world after.told) es e s.served
+  served = Chain-more IsServedOver (stands set set.first before.told) (stands set seen mid.told) (stands set later after.told) es e s.served
       (step_in set mid between after seen later e realm told v);
 }
 
@@ -84,38 +83,43 @@ pub account_in-pushed : (old now : Session) (e : Exchange)
     → now.cuts.items ≡ old.cuts.items ++ e.cut ∷ [] → account_in now ≡ with_exchange (account_in old) e
 account_in-pushed old now e moments places cuts = cc
 
+-- the sites and limits stay
+Answers-realm : (before after : DeskState) (moment : ℕ) (request : Request) (contents : List (List ℕ)) (bytes : List ℕ) (places : List Place) (cut : Cut)
+    → Answers before after moment request contents bytes places cut → after.realm ≡ before.realm
+Answers-realm before after moment request contents bytes places cut (inl a) = a.ran.realm_stays
+Answers-realm before after moment request contents bytes places cut (inr f) = f.stopped.realm_stays
+
 -- an answer, with its moment and its reply as bytes, is an exchange
-pub Answered-by : (fixed : Option ℕ) (request : Request) (before after : Outside) (old now : Session) (seen later : StillState) (sent : Sent)
+pub Answered-by : (fixed : Option ℕ) (request : Request) (before after : Outside) (old now : Session) (seen later : DeskState) (sent : Sent)
     (moment : ℕ) (reply : Option HttpReply) (places : List Place) (cut : Cut)
-    → IsTime fixed before.told after.told moment → AnswersAlone seen later moment request reply places cut
+    → IsTime fixed before.told after.told moment
+    → ((contents : List (List ℕ)) × Answers seen later moment request contents (reply_bytes (is_head request) (closes request) reply) places cut)
     → now.moments.items ≡ old.moments.items ++ moment ∷ [] → map (λ v. v.items) now.places.items ≡ map (λ v. v.items) old.places.items ++ places ∷ []
     → now.cuts.items ≡ old.cuts.items ++ cut ∷ []
     → now.reader ≡ old.reader → after.left ≡ before.left
     → Sends before.held after.held (reply_bytes (is_head request) (closes request) reply) sent
     → Answered fixed request before old seen after now later sent
-Answered-by fixed request before after old now seen later sent moment reply places cut timed a moments all_places cuts reader left sends =
-  let e : Exchange = record { request = request; moment = moment; places = places; cut = cut; contents = a.contents; bytes = reply_bytes (is_head request) (closes request) reply } in record {
-  exchange = e;
-  request_is = refl;
-  served = record {
-    realm_stays = a.realm_stays;
-    fixed_stays = refl;
-    timed = timed;
-    counts = a.counts;
-    placed = a.placed;
-    carries = a.carries;
-    bytes = a.bytes;
-    leaves = a.leaves;
-  };
-  added = account_in-pushed old now e moments all_places cuts;
-  reader = reader;
-  left = left;
-  sends = sends;
-}
+Answered-by fixed request before after old now seen later sent moment reply places cut timed a moments lists cuts reader left sends =
+    let bytes : List ℕ = reply_bytes (is_head request) (closes request) reply in
+    let e : Exchange = record { request = request; moment = moment; places = places; cut = cut; contents = a.0; bytes = bytes } in
+    record {
+      exchange = e;
+      request_is = refl;
+      served = record {
+        realm_stays = Answers-realm seen later moment request a.0 bytes places cut a.1;
+        fixed_stays = refl;
+        timed = timed;
+        answers = a.1;
+      };
+      added = account_in-pushed old now e moments lists cuts;
+      reader = reader;
+      left = left;
+      sends = sends;
+    }
 
 -- all of the reply was sent
-HasCome-serviced : (set : Setting) (before mid between after : Outside) (point : Point) (old now : Session) (seen later : StillState) (request : Request)
-    → seen.realm ≡ set.realm → SoFar set before mid point (account_in old) seen.world
+HasCome-serviced : (set : SettingOf DeskState) (before mid between after : Outside) (point : Point) (old now : Session) (seen later : DeskState) (request : Request)
+    → seen.realm ≡ set.realm → SoFar set before mid point (account_in old) seen
     → point.closed ≡ false → Nexts mid.left mid.held point between.left between.held old.reader (events.Request request) → between.told ≡ mid.told
     → Answered set.fixed request between old seen after now later Done
     → mid.read_faults ≤ after.read_faults → mid.write_faults ≤ after.write_faults → HasCome set before after now later
@@ -130,7 +134,7 @@ HasCome-serviced set before mid between after point old now seen later request r
     (Appends-trans mid.held between.held after.held due e.bytes n.gives.3 v.sends) in
     record {
       realm_stays = v.served.realm_stays ∙ realm;
-      so_far = subst (λ a. SoFar set before after now.reader a later.world) (sym v.added) (record {
+      so_far = subst (λ a. SoFar set before after now.reader a later) (sym v.added) (record {
         read = s.read ++ n.got;
         exchanges = es ++ e ∷ [];
         within = within_grown s.read n.got (requests_of es) point s.begins n.within;
@@ -147,17 +151,17 @@ HasCome-serviced set before mid between after point old now seen later request r
     }
 
 -- a part of the reply was sent
-CutOff-serviced : (set : Setting) (before mid between after : Outside) (point : Point) (old now : Session) (seen later : StillState) (request : Request)
-    → seen.realm ≡ set.realm → SoFar set before mid point (account_in old) seen.world
+CutOff-serviced : (set : SettingOf DeskState) (before mid between after : Outside) (point : Point) (old now : Session) (seen later : DeskState) (request : Request)
+    → seen.realm ≡ set.realm → SoFar set before mid point (account_in old) seen
     → point.closed ≡ false → Nexts mid.left mid.held point between.left between.held old.reader (events.Request request) → between.told ≡ mid.told
     → Answered set.fixed request between old seen after now later WriteFault
-    → CutOff set before after (account_in now) later.world
+    → CutOffBy IsServedOver set before after (account_in now) later
 CutOff-serviced set before mid between after point old now seen later request realm s opened n told v =
     let es = s.exchanges in
     let e = v.exchange in
     let due = interim (is_waiting request) in
     let sends : Sends between.held after.held e.bytes WriteFault = v.sends in
-    subst (λ a. CutOff set before after a later.world) (sym v.added) (record {
+    subst (λ a. CutOffBy IsServedOver set before after a later) (sym v.added) (record {
       read = s.read ++ n.got;
       exchanges = es ++ e ∷ [];
       point = past (grown point n.got) request n.gives.0;
@@ -176,8 +180,8 @@ CutOff-serviced set before mid between after point old now seen later request re
       sent = Appends-trans before.held between.held after.held (sent_to es ++ due) sends.0 (Appends-trans before.held mid.held between.held (sent_to es) due s.sent n.gives.3) sends.3;
     })
 
-pub GoesOn-request : (set : Setting) (before mid between after : Outside) (point : Point) (old now : Session) (seen later : StillState) (request : Request) (end : Option End)
-    → seen.realm ≡ set.realm → SoFar set before mid point (account_in old) seen.world
+pub GoesOn-request : (set : SettingOf DeskState) (before mid between after : Outside) (point : Point) (old now : Session) (seen later : DeskState) (request : Request) (end : Option End)
+    → seen.realm ≡ set.realm → SoFar set before mid point (account_in old) seen
     → point.closed ≡ false → Nexts mid.left mid.held point between.left between.held old.reader (events.Request request) → between.told ≡ mid.told
     → ServesRequest set.fixed request between old seen after now later end
     → mid.read_faults ≤ after.read_faults → mid.write_faults ≤ between.write_faults → between.write_faults ≤ after.write_faults → (end ≡ Some ends.WriteFault → between.write_faults < after.write_faults)
@@ -190,7 +194,7 @@ GoesOn-request set before mid between after point old now seen later request (So
     let come = HasCome-serviced set before mid between after point old now seen later request realm s opened n told v.0 reads (omega arith) in
     record {
       realm_stays = come.realm_stays;
-      serves = Completed-closed set before after now.reader (account_in now) later.world come.so_far
+      serves = Completed-closed set before after now.reader (account_in now) later come.so_far
           (ap (λ (x : Point). x.closed) (v.0.reader ∙ n.gives.2) ∙ v.1);
     }
 GoesOn-request set before mid between after point old now seen later request (Some ends.WriteFault) realm s opened n told v reads told_later writes cause =

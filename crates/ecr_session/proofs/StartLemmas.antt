@@ -1,14 +1,14 @@
 -- How a session begins.
-use Rattle.std.proofs.Common.{◌≡◌, ◌≤◌, ℕ, inl, List, [], length, map, refl, sym, ap, subst, arith, None, Some, Option}
+use Rattle.std.proofs.Common.{◌≡◌, ◌≤◌, ℕ, inl, List, [], length, map, refl, sym, ap, subst, arith}
 use Rattle.std.proofs.KnownBytes.{Appends-nil, Consumes-nil}
 use Rattle.ecr_model.specs.declared.journal.Place.{Place}
 use Rattle.ecr_model.specs.declared.outcome.Cut.{Cut}
 use Rattle.ecr_model.specs.declared.outcome.End.{End}
 use Rattle.ecr_model.specs.declared.outcome.End.TheVariants as ends
-use Rattle.ecr_model.specs.Sessions.{Account, Outside, Setting, Answered, Serviced, Serves, max_read}
+use Rattle.ecr_model.specs.Sessions.{Account, Exchange, Outside, SettingOf, StandingOf, AnsweredBy, ServicedBy, ServesBy, max_read}
 use Rattle.ecr_model.specs.Stream.{start}
-use Rattle.ecr_desk.specs.Desks.{StillState}
-use Rattle.ecr_session.specs.Serving.{SoFar, HasCome, IsFresh, account_in}
+use Rattle.ecr_desk.specs.Desks.{DeskState}
+use Rattle.ecr_session.specs.Serving.{SoFar, HasCome, IsFresh, IsServedOver, account_in}
 use Rattle.ecr_session.specs.declared.session.Session.{Session}
 
 -- the account of no request
@@ -21,9 +21,10 @@ unfolding max_read
 nothing_read = omega arith
 
 -- no request was serviced
-nothing_serviced : (set : Setting) (before : Outside) → Serviced set before before [] no_account set.first
+nothing_serviced : {W : Type 0} (serves : StandingOf W → Exchange → StandingOf W → Type 0) (set : SettingOf W) (before : Outside)
+    → ServicedBy serves set before before [] no_account set.first
 unfolding no_account
-nothing_serviced set before = record { says = refl; served = refl }
+nothing_serviced serves set before = record { says = refl; served = refl }
 
 -- lists without items say nothing
 pub Account-nil : (moments : List ℕ) (places : List (List Place)) (cuts : List Cut) → moments ≡ [] → places ≡ [] → cuts ≡ []
@@ -37,19 +38,19 @@ account-fresh session fresh =
     Account-nil session.moments.items (map (λ v. v.items) session.places.items) session.cuts.items fresh.moments (ap (map (λ v. v.items)) fresh.places) fresh.cuts
 
 -- a session begins where nothing was read
-pub HasCome-start : (set : Setting) (before : Outside) (session : Session) (seen : StillState) → IsFresh session
-    → seen.realm ≡ set.realm → seen.world ≡ set.first → HasCome set before before session seen
+pub HasCome-start : (set : SettingOf DeskState) (before : Outside) (session : Session) (seen : DeskState) → IsFresh session
+    → seen.realm ≡ set.realm → seen ≡ set.first → HasCome set before before session seen
 unfolding no_account
 HasCome-start set before session seen fresh realm first = record {
   realm_stays = realm;
-  so_far = subst (λ account. SoFar set before before session.reader account seen.world) (sym (account-fresh session fresh))
-      (subst (λ world. SoFar set before before session.reader no_account world) (sym first) (record {
+  so_far = subst (λ account. SoFar set before before session.reader account seen) (sym (account-fresh session fresh))
+      (subst (λ (world : DeskState). SoFar set before before session.reader no_account world) (sym first) (record {
         read = [];
         exchanges = [];
         within = nothing_read;
         consumed = Consumes-nil before.left;
         begins = fresh.reader;
-        serviced = nothing_serviced set before;
+        serviced = nothing_serviced IsServedOver set before;
         sent = Appends-nil before.held;
         reads_later = omega arith;
         writes_later = omega arith;
@@ -57,11 +58,11 @@ HasCome-start set before session seen fresh realm first = record {
 }
 
 -- a session that isn't begun has told nothing
-pub Serves-nothing : (set : Setting) (before : Outside) (account : Account) (end : End) → account ≡ record { moments = []; places = []; cuts = [] } → end ≡ ends.Mem
-    → Serves set before before account set.first end
+pub Serves-nothing : {W : Type 0} (serves : StandingOf W → Exchange → StandingOf W → Type 0) (set : SettingOf W) (before : Outside) (account : Account) (end : End) → account ≡ record { moments = []; places = []; cuts = [] } → end ≡ ends.Mem
+    → ServesBy serves set before before account set.first end
 unfolding no_account
-Serves-nothing set before account end none mem =
-    subst (λ e. Serves set before before account set.first e) (sym mem) (subst (λ a. Answered set before before a set.first) (sym none) (record {
+Serves-nothing serves set before account end none mem =
+    subst (λ e. ServesBy serves set before before account set.first e) (sym mem) (subst (λ a. AnsweredBy serves set before before a set.first) (sym none) (record {
       read = [];
       exchanges = [];
       within = nothing_read;
@@ -70,7 +71,7 @@ Serves-nothing set before account end none mem =
       consumed = Consumes-nil before.left;
       begins = refl;
       goes_on = refl;
-      serviced = nothing_serviced set before;
+      serviced = nothing_serviced serves set before;
       told_to = inl refl;
       sent = Appends-nil before.held;
     }))

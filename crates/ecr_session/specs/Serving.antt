@@ -1,5 +1,5 @@
 -- How far a session has come, and the bytes as which a request's answer is sent. Moments are in seconds.
-use Rattle.std.specs.Prelude.{◌≡◌, ◌<◌, ℕ, ◌+◌, ◌≤◌, Bool, true, false, List, [], ◌∷◌, ◌++◌, ◌⊎◌, Option, None, Some, length, map, vec_len, vec_capacity}
+use Rattle.std.specs.Prelude.{◌≡◌, ◌<◌, ℕ, ◌≤◌, Bool, true, false, List, [], ◌∷◌, ◌++◌, ◌⊎◌, Option, None, Some, length, map, vec_len, vec_capacity}
 use Rattle.std.specs.List.{sum_by}
 use Rattle.std.specs.Io.KnownBytes.{Consumes, Appends}
 use Rattle.ecr_model.specs.declared.http.Request.{Request}
@@ -8,16 +8,15 @@ use Rattle.ecr_model.specs.declared.names.Digest.{Digest}
 use Rattle.ecr_model.specs.declared.outcome.Cut.{Cut}
 use Rattle.ecr_model.specs.declared.outcome.End.{End}
 use Rattle.ecr_model.specs.declared.outcome.End.TheVariants as ends
-use Rattle.ecr_model.specs.Content.{content_digest}
 use Rattle.ecr_model.specs.Replies.{failed_reply, is_head}
 use Rattle.ecr_model.specs.Contents.{AreContents}
 use Rattle.ecr_model.specs.Posed.{posed_bytes, posed_of}
 use Rattle.ecr_model.specs.Requests.{Decided}
-use Rattle.ecr_model.specs.Scripts.{World, count_changed}
+use Rattle.ecr_model.specs.Scripts.{count_changed}
 use Rattle.ecr_model.specs.Views.{places_of}
-use Rattle.ecr_model.specs.Sessions.{Account, Outside, Setting, Counts, Exchange, IsPlaced, IsServed, Serviced, Serves, Standing, left_by, max_read, named_to, requests_of, script_of, sent_to, written}
+use Rattle.ecr_model.specs.Sessions.{Account, Outside, SettingOf, Exchange, IsTime, ServicedBy, ServesBy, StandingOf, max_read, requests_of, script_of, sent_to}
 use Rattle.ecr_model.specs.Stream.{Point, start, closes, Begins}
-use Rattle.ecr_desk.specs.Desks.{DeskState, StillState, Ran, Stopped}
+use Rattle.ecr_desk.specs.Desks.{DeskState, Ran, Stopped}
 use Rattle.ecr_http.specs.Replies as http
 use Rattle.ecr_http.specs.Sends.{Sends}
 use Rattle.ecr_http.specs.declared.reply.HttpReply.{HttpReply}
@@ -36,44 +35,43 @@ cut_of entries failed sealed = record { entries = entries; failed = failed; seal
 
 -- all turns of the request were made: the reply is that of their answer with its content, and the places and the cut are
 -- theirs
-pub record IsAnswered (before after : DeskState) (moment : ℕ) (request : Request) (reply : Option HttpReply) (places : List Place) (cut : Cut) : Type 0 where
+pub record IsAnswered (before after : DeskState) (moment : ℕ) (request : Request) (contents : List (List ℕ)) (bytes : List ℕ) (places : List Place) (cut : Cut) : Type 0 where
   pub answer : Decided
   pub ran : Ran before after (script_of before.realm moment request) answer places
-  pub contents : List (List ℕ)
   pub carries : AreContents answer.reply contents
-  pub bytes : reply_bytes (is_head request) (closes request) reply
-      ≡ posed_bytes (posed_of before.realm.served request) (closes request) answer.reply contents
+  pub bytes_are : bytes ≡ posed_bytes (posed_of before.realm.served request) (closes request) answer.reply contents
   pub entries : cut.entries ≡ count_changed places
   pub served : cut.failed ≡ false
   pub sealed_is : cut.sealed ≡ answer.sealed
 
 -- the first turns of the request were made, and there was no memory for more, or for the reply: the reply is the fixed one,
 -- and the places are the first of theirs
-pub record IsFailed (before after : DeskState) (moment : ℕ) (request : Request) (reply : Option HttpReply) (places : List Place) (cut : Cut) : Type 0 where
+pub record IsFailed (before after : DeskState) (moment : ℕ) (request : Request) (contents : List (List ℕ)) (bytes : List ℕ) (places : List Place) (cut : Cut) : Type 0 where
   pub stopped : Stopped before after (script_of before.realm moment request)
   pub rest : List Place
   pub parts : places_of stopped.turns ≡ places ++ rest
-  pub bytes : reply_bytes (is_head request) (closes request) reply ≡ failed_reply (is_head request) (closes request)
+  pub carries_none : contents ≡ []
+  pub bytes_are : bytes ≡ failed_reply (is_head request) (closes request)
   pub entries : cut.entries ≡ count_changed (places_of stopped.turns)
   pub failed : cut.failed ≡ true
   pub none_sealed : cut.sealed ≡ None
 
--- the reply, the places and the cut are those of the request's turns
-abbrev pub Answers : DeskState → DeskState → ℕ → Request → Option HttpReply → List Place → Cut → Type 0
-Answers before after moment request reply places cut =
-    IsAnswered before after moment request reply places cut ⊎ IsFailed before after moment request reply places cut
+-- the reply with its content, as bytes, the places and the cut are those of the request's turns
+abbrev pub Answers : DeskState → DeskState → ℕ → Request → List (List ℕ) → List ℕ → List Place → Cut → Type 0
+Answers before after moment request contents bytes places cut =
+    IsAnswered before after moment request contents bytes places cut
+    ⊎ IsFailed before after moment request contents bytes places cut
 
--- of a caller that is alone: the reply, the places and the cut are those of the request, and what is on the desk afterwards
--- is what it leaves
-pub record AnswersAlone (before after : StillState) (moment : ℕ) (request : Request) (reply : Option HttpReply) (places : List Place) (cut : Cut) : Type 0 where
-  pub contents : List (List ℕ)
-  pub carries : map content_digest contents ≡ named_to before.realm before.world moment cut request
-  pub bytes : reply_bytes (is_head request) (closes request) reply ≡ written before.realm before.world moment cut request contents
-  pub realm_stays : after.realm ≡ before.realm
-  pub leaves : after.world ≡ left_by before.realm before.world moment cut request
-  pub counted : after.made ≡ before.made + cut.entries
-  pub counts : Counts before.realm before.world moment request cut
-  pub placed : IsPlaced before.realm before.world moment cut request places
+-- a request was answered by the turns that it has on a desk
+pub record IsServedOver (was : StandingOf DeskState) (e : Exchange) (now : StandingOf DeskState) : Type 0 where
+  pub realm_stays : now.realm ≡ was.realm
+  pub fixed_stays : now.fixed ≡ was.fixed
+  pub timed : IsTime was.fixed was.told now.told e.moment
+  pub answers : Answers was.world now.world e.moment e.request e.contents e.bytes e.places e.cut
+
+-- a session over a desk, from its end
+abbrev pub ServesOver : SettingOf DeskState → Outside → Outside → Account → DeskState → End → Type 0
+ServesOver set before after account last end = ServesBy IsServedOver set before after account last end
 
 -- ---- what a session says
 
@@ -114,48 +112,48 @@ pub record IsFresh (session : Session) : Type 0 where
 
 -- all requests that were read were answered, and the replies were sent: the reader stands there, and this was said of them
 -- and left
-pub record SoFar (set : Setting) (before after : Outside) (point : Point) (account : Account) (last : World) : Type 0 where
+pub record SoFar (set : SettingOf DeskState) (before after : Outside) (point : Point) (account : Account) (last : DeskState) : Type 0 where
   pub read : List ℕ
   pub exchanges : List Exchange
   pub consumed : Consumes before.left after.left read
   pub within : length read ≤ max_read
   pub begins : Begins (start read) (requests_of exchanges) point
-  pub serviced : Serviced set before after exchanges account last
+  pub serviced : ServicedBy IsServedOver set before after exchanges account last
   pub sent : Appends before.held after.held (sent_to exchanges)
   pub reads_later : before.read_faults ≤ after.read_faults
   pub writes_later : before.write_faults ≤ after.write_faults
 
 -- the same of a session over a desk
-pub record HasCome (set : Setting) (before after : Outside) (session : Session) (seen : StillState) : Type 0 where
+pub record HasCome (set : SettingOf DeskState) (before after : Outside) (session : Session) (seen : DeskState) : Type 0 where
   pub realm_stays : seen.realm ≡ set.realm
-  pub so_far : SoFar set before after session.reader (account_in session) seen.world
+  pub so_far : SoFar set before after session.reader (account_in session) seen
 
 -- the session ended like that
-pub record HasEnded (set : Setting) (before after : Outside) (session : Session) (seen : StillState) (end : End) : Type 0 where
+pub record HasEnded (set : SettingOf DeskState) (before after : Outside) (session : Session) (seen : DeskState) (end : End) : Type 0 where
   pub realm_stays : seen.realm ≡ set.realm
-  pub serves : Serves set before after (account_in session) seen.world end
+  pub serves : ServesOver set before after (account_in session) seen end
 
 -- the session goes on, and isn't closed, or ends like that
-abbrev pub GoesOn : Setting → Outside → Outside → Session → StillState → Option End → Type 0
+abbrev pub GoesOn : SettingOf DeskState → Outside → Outside → Session → DeskState → Option End → Type 0
 GoesOn set before after session seen None = HasCome set before after session seen × (session.reader.closed ≡ false)
 GoesOn set before after session seen (Some end) = HasEnded set before after session seen end
 
 -- the standing of a session over a desk, between two requests
-abbrev pub standing_of : Option ℕ → Outside → StillState → Standing
-standing_of fixed outside seen = record { realm = seen.realm; world = seen.world; fixed = fixed; told = outside.told }
+abbrev pub standing_of : Option ℕ → Outside → DeskState → StandingOf DeskState
+standing_of fixed outside seen = record { realm = seen.realm; world = seen; fixed = fixed; told = outside.told }
 
 -- a request was answered, its exchange stands in the account behind the others, and the reply was sent, or a part of it
-pub record Answered (fixed : Option ℕ) (request : Request) (before : Outside) (old : Session) (seen : StillState) (after : Outside) (now : Session) (later : StillState) (sent : Sent) : Type 0 where
+pub record Answered (fixed : Option ℕ) (request : Request) (before : Outside) (old : Session) (seen : DeskState) (after : Outside) (now : Session) (later : DeskState) (sent : Sent) : Type 0 where
   pub exchange : Exchange
   pub request_is : exchange.request ≡ request
-  pub served : IsServed (standing_of fixed before seen) exchange (standing_of fixed after later)
+  pub served : IsServedOver (standing_of fixed before seen) exchange (standing_of fixed after later)
   pub added : account_in now ≡ with_exchange (account_in old) exchange
   pub reader : now.reader ≡ old.reader
   pub left : after.left ≡ before.left
   pub sends : Sends before.held after.held exchange.bytes sent
 
 -- the reply was sent, and the session ends where the request closes it; or a part of the reply was
-abbrev pub ServesRequest : Option ℕ → Request → Outside → Session → StillState → Outside → Session → StillState → Option End → Type 0
+abbrev pub ServesRequest : Option ℕ → Request → Outside → Session → DeskState → Outside → Session → DeskState → Option End → Type 0
 ServesRequest fixed request before old seen after now later None =
     Answered fixed request before old seen after now later Done × (closes request ≡ false)
 ServesRequest fixed request before old seen after now later (Some ends.Whole) =

@@ -1,14 +1,14 @@
 // What a request is answered.
-ghost use Rattle.std.specs.Prelude.{◌≡◌, ◌<◌, codes, length, IfOk, None, OnErr};
+ghost use Rattle.std.specs.Prelude.{◌≡◌, ◌<◌, ℕ, List, codes, length, IfOk, None, OnErr};
 ghost use Rattle.ecr_api.specs.Readings.{LoadFits, Reads, meaning};
 ghost use Rattle.ecr_http.specs.Replies.{reply_bytes};
 ghost use Rattle.ecr_model.specs.Actions.{asks, reading};
 ghost use Rattle.ecr_model.specs.Contents.{AreContents};
 ghost use Rattle.ecr_model.specs.Posed.{api, base_of, is_json_call, posed_of, posed_script, target_of};
-ghost use Rattle.ecr_model.specs.Replies.{empty_reply};
+ghost use Rattle.ecr_model.specs.Replies.{empty_reply, is_head};
 ghost use Rattle.ecr_model.specs.Requests.{asked_script, of_site};
 ghost use Rattle.ecr_model.specs.Stream.{closes};
-ghost use Rattle.ecr_session.specs.Serving.{Answers, cut_of};
+ghost use Rattle.ecr_session.specs.Serving.{Answers, cut_of, reply_bytes as sent_bytes};
 ghost use Rattle.ecr_session.specs.Turns.{IsAskable, IsReplied, RanWith, StoppedWith};
 
 use crate::describe::describe;
@@ -45,7 +45,7 @@ pub(crate) fn answer_request<D: AnyDesk>(
     request: &Request,
 ) -> Answer
     requires { 0 < length (D.seen desk.old).realm.served }
-    ensures { Answers (D.seen desk.old) (D.seen desk.new) moment request.now result.reply result.places.items result.cut }
+    ensures { (contents : List (List ℕ)) × Answers (D.seen desk.old) (D.seen desk.new) moment request.now contents (sent_bytes (is_head request.now) (closes request.now) result.reply) result.places.items result.cut }
 {
     let before = desk.made();
     let mut places = Vec::new(alloc);

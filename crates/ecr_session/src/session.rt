@@ -3,7 +3,7 @@ ghost use Rattle.ecr_model.specs.Sessions.{IsTime};
 
 use crate::answer::answer_request;
 use crate::fixed::{bad_reply, is_head, long_reply};
-use ecr_desk::StillDesk;
+use ecr_desk::AnyDesk;
 use ecr_errors::fixed_500;
 use ecr_http::{Event, HttpReply, Reader, Sent, closes};
 use ecr_model::{Cut, End, Mem, Moment, Place, Request};
@@ -25,8 +25,8 @@ pub struct Session {
 
 impl Session {
     ghost use Rattle.std.specs.Prelude.{◌≡◌, ◌+◌, ◌-◌, ◌^◌, ◌<◌, ◌≤◌, ◌≢◌, ℕ, List, [], true, false, length, Option, Some, IfOk, IfNone, OnOk, vec_len, vec_capacity};
-    ghost use Rattle.ecr_model.specs.Sessions.{Outside, Setting};
-    ghost use Rattle.ecr_desk.specs.Desks.{still_of};
+    ghost use Rattle.ecr_model.specs.Sessions.{Outside, SettingOf};
+    ghost use Rattle.ecr_desk.specs.Desks.{DeskState};
     ghost use Rattle.ecr_session.specs.Serving.{HasCome, GoesOn, HasEnded, HasRoom, ServesRequest, SendsLast, IsFresh, account_in, entries_in, reply_bytes};
     ghost use Rattle.ecr_http.specs.Sends.{Sends};
     ghost use Rattle.ecr_model.specs.Replies.{is_head};
@@ -47,7 +47,7 @@ impl Session {
 
     /// Serves requests until the session ends, and says how. Their moment is the fixed one, or else each time the clock's.
     /// Their bodies are read by the scratch.
-    pub(crate) fn run<D: StillDesk, S: Source, K: Sink, C: Clock>(
+    pub(crate) fn run<D: AnyDesk, S: Source, K: Sink, C: Clock>(
         &mut self,
         alloc: Global,
         scratch: &mut Scratch,
@@ -60,10 +60,10 @@ impl Session {
         requires fresh { IsFresh self.old }
         requires some { 0 < length (D.seen desk.old).realm.served }
         ensures serves { HasEnded
-            (record { realm = (D.seen desk.old).realm; first = (still_of (D.seen desk.old)).world; fixed = fixed })
+            (record { realm = (D.seen desk.old).realm; first = D.seen desk.old; fixed = fixed })
             (record { left = S.left source.old; held = K.held sink.old; told = C.told clock.old; read_faults = S.faults source.old; write_faults = K.faults sink.old })
             (record { left = S.left source.new; held = K.held sink.new; told = C.told clock.new; read_faults = S.faults source.new; write_faults = K.faults sink.new })
-            self.new (still_of (D.seen desk.new)) result }
+            self.new (D.seen desk.new) result }
         ensures counted { (D.seen desk.new).made ≡ (D.seen desk.old).made + entries_in self.new.cuts.items }
     {
         loop {
@@ -75,7 +75,7 @@ impl Session {
 
     // Serves what comes next of the source. The room for what is said of it is taken first: where there is none, nothing is
     // read.
-    fn take_turn<D: StillDesk, S: Source, K: Sink, C: Clock>(
+    fn take_turn<D: AnyDesk, S: Source, K: Sink, C: Clock>(
         &mut self,
         alloc: Global,
         scratch: &mut Scratch,
@@ -87,12 +87,12 @@ impl Session {
     ) -> Option<End>
         requires opened { self.old.reader.closed ≡ false }
         requires some { 0 < length (D.seen desk.old).realm.served }
-        ensures goes_on { (set : Setting) (before : Outside) → set.fixed ≡ fixed → HasCome set before
+        ensures goes_on { (set : SettingOf DeskState) (before : Outside) → set.fixed ≡ fixed → HasCome set before
             (record { left = S.left source.old; held = K.held sink.old; told = C.told clock.old; read_faults = S.faults source.old; write_faults = K.faults sink.old })
-            self.old (still_of (D.seen desk.old))
+            self.old (D.seen desk.old)
             → GoesOn set before
             (record { left = S.left source.new; held = K.held sink.new; told = C.told clock.new; read_faults = S.faults source.new; write_faults = K.faults sink.new })
-            self.new (still_of (D.seen desk.new)) result }
+            self.new (D.seen desk.new) result }
         ensures counted { (D.seen desk.new).made + entries_in self.old.cuts.items ≡ (D.seen desk.old).made + entries_in self.new.cuts.items }
 
         // A turn adds a cut, and a list of cuts has an end.
@@ -131,7 +131,7 @@ impl Session {
     }
 
     // Answers one request, and sends the reply. What is said of it has its room.
-    fn serve<D: StillDesk, K: Sink, C: Clock>(
+    fn serve<D: AnyDesk, K: Sink, C: Clock>(
         &mut self,
         alloc: Global,
         scratch: &mut Scratch,
@@ -144,8 +144,8 @@ impl Session {
         requires some { 0 < length (D.seen desk.old).realm.served }
         requires room { HasRoom self.old }
         ensures serves { (left : Option (List ℕ)) (faults : ℕ) → ServesRequest fixed request.now
-            (record { left = left; held = K.held sink.old; told = C.told clock.old; read_faults = faults; write_faults = K.faults sink.old }) self.old (still_of (D.seen desk.old))
-            (record { left = left; held = K.held sink.new; told = C.told clock.new; read_faults = faults; write_faults = K.faults sink.new }) self.new (still_of (D.seen desk.new)) result }
+            (record { left = left; held = K.held sink.old; told = C.told clock.old; read_faults = faults; write_faults = K.faults sink.old }) self.old (D.seen desk.old)
+            (record { left = left; held = K.held sink.new; told = C.told clock.new; read_faults = faults; write_faults = K.faults sink.new }) self.new (D.seen desk.new) result }
         ensures counted { (D.seen desk.new).made + entries_in self.old.cuts.items ≡ (D.seen desk.old).made + entries_in self.new.cuts.items }
         ensures longer { vec_len self.new.cuts ≡ vec_len self.old.cuts + 1 }
         ensures later { K.faults sink.old ≤ K.faults sink.new }

@@ -1,4 +1,3 @@
-use Rattle.std.proofs.lemmas.Result.{IfOk-weaker}
 use Rattle.ecr_session.proofs.AnswerLemmas.{IsReplied-asked, StoppedWith-asked}
 use Rattle.ecr_session.proofs.TurnLemmas.{OnErr-always, StoppedWith-whole}
 use Rattle.ecr_session.proofs.answer.answer_asked.Goals as goal

@@ -1,19 +1,18 @@
 use Rattle.std.proofs.Common.{◌≡◌, ◌<◌, ◌+◌, ◌-◌, ◌^◌, false, length}
 use Rattle.std.specs.Vec.{vec_len}
-use Rattle.ecr_desk.specs.Desks.{still_of}
 use Rattle.ecr_session.specs.Serving.{HasCome, entries_in}
 use Rattle.ecr_session.proofs.session.Session.run.Given as goal
 
 abbrev pub invariant-loop-end : goal.invariant-loop-end
 invariant-loop-end g l = record {
   come : HasCome
-      (record { realm = (still_of (g.D.AnyDesk.seen l.initial.desk)).realm; first = (still_of (g.D.AnyDesk.seen l.initial.desk)).world; fixed = l.fixed })
+      (record { realm = (g.D.AnyDesk.seen l.initial.desk).realm; first = (g.D.AnyDesk.seen l.initial.desk); fixed = l.fixed })
       (record { left = g.S.Source.left l.initial.source; held = g.K.Sink.held l.initial.sink; told = g.C.Clock.told l.initial.clock; read_faults = g.S.Source.faults l.initial.source; write_faults = g.K.Sink.faults l.initial.sink })
       (record { left = g.S.Source.left l.source; held = g.K.Sink.held l.sink; told = g.C.Clock.told l.clock; read_faults = g.S.Source.faults l.source; write_faults = g.K.Sink.faults l.sink })
-      l.self (still_of (g.D.AnyDesk.seen l.desk));
+      l.self (g.D.AnyDesk.seen l.desk);
   opened : l.self.reader.closed ≡ false;
-  some : 0 < length (still_of (g.D.AnyDesk.seen l.desk)).realm.served;
-  counted : (still_of (g.D.AnyDesk.seen l.desk)).made ≡ (still_of (g.D.AnyDesk.seen l.initial.desk)).made + entries_in l.self.cuts.items;
+  some : 0 < length (g.D.AnyDesk.seen l.desk).realm.served;
+  counted : (g.D.AnyDesk.seen l.desk).made ≡ (g.D.AnyDesk.seen l.initial.desk).made + entries_in l.self.cuts.items;
 }
 
 abbrev pub decreases-loop-end : goal.decreases-loop-end
