@@ -183,15 +183,15 @@ Answers-replied before after moment request reply sealed old places first last c
     let contents : List (List ℕ) = r.contents in (
       contents,
       subst (λ k. Answers before after moment request contents (reply_bytes reply) places k) (sym is_cut)
-      (subst (λ ps. Answers before after moment request contents (reply_bytes reply) ps (cut_of (last - first) false sealed)) (sym told) (inl (record {
-        answer = r.answer;
-        ran = r.ran.ran;
-        carries = r.carries;
-        bytes_are = r.bytes;
-        entries = count;
-        served = refl;
-        sealed_is = r.sealed_is;
-      }))),
+          (subst (λ ps. Answers before after moment request contents (reply_bytes reply) ps (cut_of (last - first) false sealed)) (sym told) (inl (record {
+            answer = r.answer;
+            ran = r.ran.ran;
+            carries = r.carries;
+            bytes_are = r.bytes;
+            entries = count;
+            served = refl;
+            sealed_is = r.sealed_is;
+          }))),
     )
 
 pub Answers-failed : (before after : DeskState) (moment : ℕ) (request : Request) (old places : List Place) (first last : ℕ) (cut : Cut) → cut ≡ cut_of (last - first) true None → old ≡ [] → first ≡ before.made → last ≡ after.made

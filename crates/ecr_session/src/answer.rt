@@ -177,7 +177,13 @@ fn answer_asked<D: AnyDesk>(
     ensures stopped { OnErr result (StoppedWith (D.seen desk.old) (D.seen desk.new) (posed_script (api (asks (meaning asked.now))) moment) places.old.items places.new.items) }
 {
     let decided = run_asked(alloc, desk, asked, moment, places)?;
-    let reply = write_reply(alloc, asked, &decided.reply, decided.blobs.as_slice(), close)?;
+    let reply = write_reply(
+        alloc,
+        asked,
+        &decided.reply,
+        decided.blobs.as_slice(),
+        close,
+    )?;
     Ok(Replied {
         reply,
         sealed: decided.sealed,

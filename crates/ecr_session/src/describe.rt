@@ -3,7 +3,7 @@ ghost use Rattle.std.specs.Prelude.{◌≡◌, ◌<◌, ◌^◌, [], None, Some,
 ghost use Rattle.ecr_model.specs.Requests.{describe_script, key_at, listed_script, named_script, next_place, one_script};
 ghost use Rattle.ecr_session.specs.Turns.{IsDescribed, RanWith, StoppedWith};
 
-use crate::turns::{call_at, site_at};
+use crate::turns::{Decided, call_at, site_at};
 use ecr_blob_upload::Load;
 use ecr_desk::AnyDesk;
 use ecr_model::{
@@ -125,7 +125,12 @@ fn describe_next<D: AnyDesk>(
     let key = key_at(site, name)?;
     let load = Load::Nothing;
     let decided = call_at(alloc, desk, &key, Call::Describe, load, moment, places)?;
-    match decided.reply {
+    let Decided {
+        reply,
+        blobs: _blobs,
+        sealed: _sealed,
+    } = decided;
+    match reply {
         Reply::Described { rows: more, .. } => {
             let mut more = more.into_vec();
             rows.append(&mut more)?;
