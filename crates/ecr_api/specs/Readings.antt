@@ -14,13 +14,13 @@ use Rattle.ecr_api.specs.declared.asked.Asked.TheVariants.{Cell, Site, Many}
 use Rattle.ecr_api.specs.declared.calls.Made.{Made}
 use Rattle.ecr_api.specs.declared.calls.Made.TheVariants.{One, Several}
 
--- what is asked, with the bytes that come with it
+-- the call that is asked for, with the bytes that come with it
 abbrev pub meaning : Asked → actions.Asked
 meaning (Cell key call load) = actions.cell key call (given load)
 meaning (Site site call) = actions.site site call
 meaning (Many site names page) = actions.many site names page
 
--- what comes with it is such as its call has
+-- the content is such as the call has
 abbrev pub LoadFits : Asked → Type 0
 LoadFits (Cell key call load) = FitsCall call load
 LoadFits (Site site call) = Unit {0}

@@ -14,7 +14,7 @@ use Rattle.ecr_http.specs.declared.body.Gathered.TheVariants as gathereds
 use Rattle.ecr_http.specs.declared.body.Taken.{Taken}
 use Rattle.ecr_http.specs.declared.body.Taken.TheVariants as takens
 
--- what came of the source while a body was read: it stands behind the bytes that were there
+-- the bytes that came of the source while a body was read stand behind those that were there
 pub record IsGot (before : Option (List ℕ)) (old : Intake) (after : Option (List ℕ)) (now : Intake) : Type 0 where
   pub got : List ℕ
   pub consumed : Consumes before after got
@@ -54,7 +54,7 @@ IsPartial stops.Failed limit bytes framing = IsBody limit bytes framing (lacks o
 IsPartial stops.Spent limit bytes framing = IsBody limit bytes framing (lacks open_)
 IsPartial stops.Mem limit bytes framing = ⊤
 
--- what stands at the front of the bytes
+-- the front of the bytes, as the taking of a body has it
 abbrev pub Shows : ℕ → List ℕ → Framing → Option (List ℕ) → Intake → Taken → Type 0
 Shows limit bytes framing left now (takens.Body body size) =
     IsBody limit bytes framing (complete body.items size) × (now.buffer ≡ drop size bytes)

@@ -14,7 +14,7 @@ use Rattle.ecr_http.specs.declared.chunks.Stage.TheVariants as stages
 use Rattle.ecr_http.specs.declared.chunks.Next.{Next}
 use Rattle.ecr_http.specs.declared.chunks.Next.TheVariants as nexts
 
--- what it means for a part that these bytes stand where CR LF is due
+-- a part of a body by the bytes that stand where CR LF is due
 abbrev pub IsClosed : List ℕ → Closing → Type 0
 IsClosed bytes closings.Crlf = (2 ≤ length bytes) × ((part : Part) → if_crlf part bytes ≡ part)
 IsClosed bytes closings.Less = (part : Part) → if_crlf part bytes ≡ lacking open_
@@ -47,7 +47,7 @@ pub record IsInTrailers (p : Progress) (body buffer : List ℕ) (scanned : ℕ) 
   pub within : scanned ≤ length buffer
   pub known : HasNoEnd buffer scanned
 
--- what was read behind the chunks so far
+-- the bytes that were read behind the chunks so far
 abbrev pub StandsAt : ℕ → Progress → List ℕ → List ℕ → Stage → Type 0
 StandsAt limit p body buffer stages.Line = (body ≡ p.body) × (buffer ≡ p.ahead)
 StandsAt limit p body buffer (stages.Data left) = IsInData limit p body buffer left
@@ -66,7 +66,7 @@ pub record Awaits (limit : ℕ) (before : Option (List ℕ)) (old : Intake) (aft
   pub decodes : Decodes limit before old after now body stage
   pub less : IsChunked limit (old.buffer ++ decodes.come.got) (lacks open_)
 
--- what stands at the front of the bytes, where the decoding ends
+-- the front of the bytes, where the decoding ends
 abbrev pub Finds : ℕ → List ℕ → Option (List ℕ) → Intake → List ℕ → Next → Type 0
 Finds limit bytes left now body (nexts.Go stage) = ⊥
 Finds limit bytes left now body nexts.Whole =
@@ -88,7 +88,7 @@ DecodesOn limit before old after now body nexts.Bad = Decoded limit before old a
 DecodesOn limit before old after now body (nexts.Long most) = Decoded limit before old after now body (nexts.Long most)
 DecodesOn limit before old after now body (nexts.Stopped stop) = Decoded limit before old after now body (nexts.Stopped stop)
 
--- what is known of the buffer at that stage
+-- the buffer at that stage
 abbrev pub IsScanned : List ℕ → Stage → Type 0
 IsScanned buffer stages.Line = ⊤
 IsScanned buffer (stages.Data left) = ⊤

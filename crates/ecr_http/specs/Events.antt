@@ -27,7 +27,7 @@ closes_after events.Mem = true
 abbrev pub point_of : Intake → Bool → Point
 point_of intake closed = record { at = intake.at; ahead = intake.buffer; closed = closed }
 
--- what is given for what stands at the front; whether a 100 was due
+-- the event for what stands at the front; the flag says whether a 100 was due
 abbrev pub Fronts : ℕ → List ℕ → Intake → Option (List ℕ) → Bool → Event → Type 0
 Fronts at bytes now left due (events.Request request) =
     (count : ℕ) × IsFront at bytes (whole request count) × (now.at ≡ at + count) × (now.buffer ≡ drop count bytes) × IsReady now
@@ -49,7 +49,7 @@ pub record HasHead (bytes : List ℕ) (count : ℕ) (head : Head) (framing : Fra
   pub framed : framing_of head ≡ Some framing
   pub limit_is : limit ≡ max_body head.target
 
--- what came of the source behind a head, and what is given for it
+-- the bytes that came of the source behind a head, and the event for them
 pub record Behind (before : Option (List ℕ)) (old : Intake) (after : Option (List ℕ)) (now : Intake) (due : Bool) (event : Event) : Type 0 where
   pub got : List ℕ
   pub consumed : Consumes before after got

@@ -27,7 +27,7 @@ pub record Gains (most : ℕ) (before : Option (List ℕ)) (old : List ℕ) (aft
   pub at_most : n ≤ most
   pub appended : now ≡ old ++ piece
 
--- what one read did to the buffer
+-- the buffer after one read
 abbrev pub Fills : ℕ → Option (List ℕ) → List ℕ → Option (List ℕ) → List ℕ → Got → Type 0
 Fills most before old after now (Bytes n) = Gains most before old after now n
 Fills most before old after now End = (now ≡ old) × Keeps before after × IsAtEnd after

@@ -11,7 +11,7 @@ use Rattle.ecr_http.specs.declared.intake.Stop.TheVariants as stops
 use Rattle.ecr_http.specs.declared.lead.Lead.{Lead}
 use Rattle.ecr_http.specs.declared.lead.Lead.TheVariants as leads
 
--- what is always so between two requests
+-- the invariant between two requests
 pub record IsReady (intake : Intake) : Type 0 where
   pub placed : intake.at + length intake.buffer ≡ intake.total
   pub spent : intake.total ≤ max_read
@@ -39,7 +39,7 @@ IsOpen stops.Failed bytes = IsShort bytes
 IsOpen stops.Spent bytes = IsShort bytes
 IsOpen stops.Mem bytes = ⊤
 
--- what stands at the front of the bytes
+-- the front of the bytes, as the look for a head has it
 abbrev pub Shows : List ℕ → ℕ → Option (List ℕ) → Lead → Type 0
 Shows bytes total left (leads.Head head n) = IsEnd max_head bytes n × Parses (take n bytes) (Some head)
 Shows bytes total left leads.Bad = (n : ℕ) × IsEnd max_head bytes n × Parses (take n bytes) None

@@ -18,7 +18,7 @@ Shows over p held now ending = (due : Bool) × Lacks over p (record { due = due;
 abbrev pub MayTell : Point → List ℕ → Type 0
 MayTell p further = (further ≡ []) ⊎ (AwaitsBody p × (further ≡ continue_reply))
 
--- what is given, where these bytes come, and the reader is at that point afterwards
+-- the event that is given where these bytes come, with the reader at that point afterwards
 abbrev pub Gives : Point → Point → Option (List ℕ) → Option (List ℕ) → Option (List ℕ) → Event → Type 0
 Gives p q left held now (events.Request request) =
     (n : ℕ) × Meets p (whole request n) × (q ≡ past p request n) × Appends held now (interim (is_waiting request))
@@ -47,7 +47,7 @@ IsUnspent size events.WriteFault = ⊤
 IsUnspent size events.Spent = ⊤
 IsUnspent size events.Mem = ⊤
 
--- what a call of a reader did: `got` was taken from the source
+-- the effect of a reader's call: `got` was taken from the source
 pub record Nexts (before held : Option (List ℕ)) (p : Point) (after now : Option (List ℕ)) (q : Point) (event : Event) : Type 0 where
   pub got : List ℕ
   pub consumed : Consumes before after got

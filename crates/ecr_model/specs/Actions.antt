@@ -24,7 +24,7 @@ use Rattle.ecr_model.specs.declared.repository.Mutability.TheVariants.{Mutable}
 use Rattle.ecr_model.specs.Documents.{document}
 use Rattle.ecr_model.specs.Members.{Valued, value_at, text_in, whole_in, truth_in, texts_in, place_of, rows_of, mutability_of, site_of, typed_members, first_bad}
 
--- what stands before an action's name in X-Amz-Target
+-- the text before an action's name in X-Amz-Target
 abbrev pub service : List ℕ
 service = codes "AmazonEC2ContainerRegistry_V20150921."
 
@@ -78,7 +78,7 @@ pub data Asked : Type 0 where
   site : SiteId → SiteCall → Asked
   many : SiteId → Option (List Name) → Page → Asked
 
--- what a body asks for, or why it is refused
+-- the call that a body makes, or the cause for which it is refused
 pub data Reading : Type 0 where
   asks : Asked → Reading
   refuses : Refusal → Reading
@@ -144,17 +144,17 @@ unless_bad (Some parameter) reading = refuses (InvalidParameter parameter)
 unfoldable pub values_reading : SiteId → List SiteId → Action → List Valued → Reading
 values_reading base served action values = unless_bad (first_bad base served values) (made_by base served action values)
 
--- what a JSON value asks of an action
+-- the reading of a JSON value for an action
 unfoldable pub typed_reading : SiteId → List SiteId → Action → Data → Reading
 typed_reading base served action body =
     option_map_or (values_reading base served action) (typed_members (members_of action) body) (refuses Serialization)
 
--- what a body asks of an action
+-- the reading of a body for an action
 abbrev pub body_reading : SiteId → List SiteId → Action → Option Data → Reading
 body_reading base served action None = refuses Serialization
 body_reading base served action (Some body) = typed_reading base served action body
 
--- what a body asks of the action that was named, if it is one
+-- the reading of a body for the action that was named, if it is one
 abbrev pub action_reading : SiteId → List SiteId → Option Action → List ℕ → Reading
 action_reading base served None body = refuses UnknownOperation
 action_reading base served (Some action) body = body_reading base served action (document body)

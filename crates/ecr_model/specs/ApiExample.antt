@@ -30,7 +30,7 @@ name text = record { text = text }
 abbrev pub key : SiteId → List ℕ → RepoKey
 key site text = record { site = site; name = name text }
 
--- what that body asks of that action, at the first of the two sites
+-- the reading of that body for that action, at the first of the two sites
 abbrev pub read_as : List ℕ → List ℕ → Reading
 read_as action body = reading (service ++ action) body home (home ∷ neighbour ∷ [])
 

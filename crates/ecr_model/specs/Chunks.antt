@@ -31,7 +31,7 @@ abbrev pub Says : List ℕ → Option ℕ → Type 0
 Says line None = (l : ChunkLine) → ReadsChunkLine line l [] → ⊥
 Says line (Some size) = (l : ChunkLine) × ReadsChunkLine line l [] × (size ≡ chunk_size l)
 
--- what stands at the front of a chunked body's bytes
+-- the front of a chunked body's bytes
 pub data Part : Type 0 where
   -- a chunk: its data, and how many bytes it takes, from its line through the CR LF behind the data
   chunk : List ℕ → ℕ → Part
@@ -61,7 +61,7 @@ abbrev pub last_of : ℕ → List ℕ → Option ℕ → Part
 last_of n bytes None = lacking (if nat_le (length bytes) max_trailers then open_ else too_long max_trailers)
 last_of n bytes (Some end) = last_chunk (n + end)
 
--- what it is, by what a line with its LF at that place says
+-- that front, by a line with its LF at that place
 abbrev pub IsSaid : ℕ → ℕ → List ℕ → ℕ → Option ℕ → Part → Type 0
 IsSaid limit so_far bytes n None part = part ≡ lacking bad
 IsSaid limit so_far bytes n (Some zero) part =
@@ -69,7 +69,7 @@ IsSaid limit so_far bytes n (Some zero) part =
 IsSaid limit so_far bytes n (Some (suc k)) part =
     part ≡ if_within limit so_far (suc k) (chunk_of (suc n) (drop (suc n) bytes) (suc k))
 
--- what it is, by where the line ends and what it says
+-- that front, by the place where the line ends
 abbrev pub IsLined : ℕ → ℕ → List ℕ → Option ℕ → Option ℕ → Part → Type 0
 IsLined limit so_far bytes None size part = part ≡ lacking (if nat_lt (length bytes) max_chunk_line then open_ else bad)
 IsLined limit so_far bytes (Some n) size part = IsSaid limit so_far bytes n size part
@@ -79,7 +79,7 @@ abbrev pub SaysAt : List ℕ → Option ℕ → Option ℕ → Type 0
 SaysAt bytes None size = size ≡ None
 SaysAt bytes (Some n) size = Says (take (suc n) bytes) size
 
--- what stands at the front of the bytes, within the limit of a body of which so much data came before
+-- the front of the bytes, within the limit of a body of which so much data came before
 pub record IsPart (limit so_far : ℕ) (bytes : List ℕ) (part : Part) : Type 0 where
   pub size : Option ℕ
   pub says : SaysAt bytes (line_end bytes) size
@@ -106,7 +106,7 @@ with_more p others = record p { ahead = p.ahead ++ others }
 abbrev pub past_chunk : Progress → List ℕ → ℕ → Progress
 past_chunk p content n = record { at = p.at + n; body = p.body ++ content; ahead = drop n p.ahead }
 
--- what comes next
+-- the part of the body that comes next
 abbrev pub Comes : ℕ → Progress → Part → Type 0
 Comes limit p part = IsPart limit (length p.body) p.ahead part
 
@@ -115,13 +115,13 @@ abbrev pub Chunks : ℕ → Progress → List (List ℕ) → Progress → Type 0
 Chunks limit p [] q = q ≡ p
 Chunks limit p (c ∷ cs) q = (n : ℕ) × Comes limit p (chunk c n) × Chunks limit (past_chunk p c n) cs q
 
--- what the whole body is, by what stands behind its chunks
+-- the whole body, by the bytes behind its chunks
 abbrev pub front_of : Progress → Part → Option BodyFront
 front_of p (chunk c n) = None
 front_of p (last_chunk n) = Some (complete p.body (p.at + n))
 front_of p (lacking lack) = Some (lacks lack)
 
--- what stands at the front of the bytes behind a head that says `chunked`, within the limit of a body
+-- the front of the bytes behind a head that says `chunked`, within the limit of a body
 pub record IsChunked (limit : ℕ) (bytes : List ℕ) (front : BodyFront) : Type 0 where
   pub chunks : List (List ℕ)
   pub progress : Progress

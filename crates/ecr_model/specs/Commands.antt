@@ -30,7 +30,7 @@ pub record IsSession (words : List (List ℕ)) (fixed : Option ℕ) (sites : Lis
 abbrev pub IsNoCommand : List (List ℕ) → Type 0
 IsNoCommand words = (fixed : Option ℕ) (sites : List SiteId) → IsSession words fixed sites → ⊥
 
--- what is written where the words are no command
+-- the lines that are written where the words are no command
 unfoldable pub usage_lines : List ℕ
 usage_lines =
     codes "usage: ecrd session [--control] [--clock S] SITE..." ++ 10 ∷ []
@@ -58,7 +58,8 @@ SaysUsage before after _ = ⊥
 abbrev pub fresh_session : List SiteId → Option ℕ → Setting
 fresh_session sites fixed = record { realm = record { served = sites; limits = standard }; first = fresh; fixed = fixed }
 
--- what a command that serves a session reads, answers and writes, and how it ends; the cuts are those of its account
+-- a command that serves a session reads, answers and writes as this session does, and ends so; the cuts are those of its
+-- account
 pub record RunsSession (sites : List SiteId) (fixed : Option ℕ) (before after : Outside) (cuts : List Cut) (end : End) : Type 0 where
   pub moments : List ℕ
   pub places : List (List Place)

@@ -25,7 +25,7 @@ first_bytes =
     ++ codes "X-Amz-Target: AmazonEC2ContainerRegistry_V20150921.CreateRepository" ++ crlf ++ crlf
     ++ codes "{\"repositoryName\":\"team/app\"}"
 
--- what they say
+-- the request in these bytes
 abbrev pub first_request : Request
 first_request = record {
   at = 0;

@@ -12,7 +12,7 @@ use Rattle.ecr_model.specs.declared.http.Head.{Head}
 abbrev pub field_of : grammar.Field → Field
 field_of line = record { name = line.name; value = field_value line }
 
--- what is kept of a head
+-- the part of a head that is kept
 abbrev pub head_of : RequestHead → Head
 head_of head =
     record { method = head.method; target = head.target; minor = head.minor; fields = map field_of head.fields }

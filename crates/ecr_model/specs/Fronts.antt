@@ -10,7 +10,7 @@ pub data Lack : Type 0 where
   -- there are fewer bytes than it has
   open_ : Lack
 
--- what stands behind a head
+-- the bytes behind a head
 pub data BodyFront : Type 0 where
   -- a body, and how many bytes it takes
   complete : List ℕ → ℕ → BodyFront

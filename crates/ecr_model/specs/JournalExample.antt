@@ -43,7 +43,7 @@ reply ticket call = reply_at app standard history (turn ticket 1700000009) call
 abbrev pub row : ℕ → Reply → Type 0
 row created described = described ≡ replies.Described (record { name = app.name; created = created; mutability = Mutable } ∷ []) None
 
--- what was answered at each ticket: the repository isn't there before it is created and after it is deleted, is shown as it
+-- the answers at each ticket: the repository isn't there before it is created and after it is deleted, is shown as it
 -- was when it is deleted, and has its second moment afterwards
 pub record ARepositoryComesAndGoes : Type 0 where
   pub not_yet : reply 0 Describe ≡ replies.Refused RepositoryNotFound

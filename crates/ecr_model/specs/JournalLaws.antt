@@ -29,7 +29,7 @@ module _ {S : Type 0} (after : S → Line → Option S) (first : S) where
       → IsSound after first lines → past lines ≤ line.ticket → after (replay after first lines) line ≡ Some next
       → IsSound after first (lines ++ line ∷ [])
 
-  -- what stood at a ticket stays, whatever is entered at that ticket or later
+  -- the state at a ticket stays, whatever is entered at that ticket or later
   abbrev pub WhatWasStays : Type 0
   WhatWasStays = (lines news : List Line) (ticket : ℕ) → All (λ l. ticket ≤ l.ticket) news
       → state_at after first (lines ++ news) ticket ≡ state_at after first lines ticket

@@ -126,7 +126,7 @@ entries_name false = codes "layers"
 abbrev pub entries_of : Bool → Data → Option (List (Option Descriptor))
 entries_of list value = option_map descriptors (option_and_then as_array (get (entries_name list) value))
 
--- what a manifest names: the config and the entries
+-- the descriptors that a manifest has: the config and the entries
 abbrev pub some_of : Option Descriptor → Option Descriptor
 some_of entry = entry
 
@@ -156,7 +156,7 @@ abbrev pub is_two : Option ℕ → Bool
 is_two None = false
 is_two (Some n) = n == 2
 
--- what is wrong with the manifest itself
+-- the fault of the manifest itself
 unfoldable pub manifest_fault : Option (List ℕ) → Data → Option ManifestFault
 manifest_fault given value = first_of (
     cause_if 1 (not (is_some (as_object value)))
@@ -183,7 +183,7 @@ abbrev pub size_of : Bool → List Descriptor → ℕ
 size_of true blobs = 0
 size_of false blobs = sum_by (λ d. d.size) blobs
 
--- what is wrong with what it names
+-- the fault of a descriptor in it
 unfoldable pub blobs_fault : Bool → Option Descriptor → Option (List (Option Descriptor)) → Option ManifestFault
 blobs_fault list config entries = first_of (
     cause_if 6 (not list && not (is_some config))

@@ -13,7 +13,7 @@ pub record IsWord (word : List ℕ) : Type 0 where
   pub some : 0 < length word
   pub plain : IsTrue (list_all is_alphanumeric word)
 
--- what stands between two words: a separator, `\.|_|__|-+`, within a component, or the `/` between two
+-- the text between two words: a separator, `\.|_|__|-+`, within a component, or the `/` between two
 pub data IsJoint : List ℕ → Type 0 where
   dot : IsJoint (46 ∷ [])
   underscore : IsJoint (95 ∷ [])

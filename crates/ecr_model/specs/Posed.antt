@@ -31,7 +31,7 @@ target_of request = unwrap_or (first_value (codes "x-amz-target") request.fields
 abbrev pub base_of : List SiteId → Request → SiteId
 base_of served request = site_for served (first_value (codes "host") request.fields)
 
--- what the request poses to the sites that are served
+-- the request as it is posed to the sites that are served
 unfoldable pub posed_of : List SiteId → Request → Posed
 posed_of served request = if is_json_call request
     then api (reading (target_of request) request.body (base_of served request) served)

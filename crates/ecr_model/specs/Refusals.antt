@@ -42,7 +42,7 @@ parameter_text parameters.ReplicationConfiguration = codes "replicationConfigura
 parameter_text (parameters.Manifest fault) = codes "imageManifest cause " ++ decimal fault.cause ++ codes " entry " ++ decimal fault.entry
 parameter_text (parameters.Policy fault) = codes "lifecyclePolicyText rule " ++ decimal fault.rule ++ codes " cause " ++ decimal fault.cause
 
--- what of a replication configuration is wrong
+-- the fault of a replication configuration, in a word
 abbrev pub fault_text : ConfigurationFault → List ℕ
 fault_text faults.Rules = codes "rules"
 fault_text faults.RepositoryFilters = codes "repositoryFilters"

@@ -55,7 +55,7 @@ is_region text = nat_le 1 (length text) && nat_le (length text) 32 && list_all i
 abbrev pub is_account : List ℕ → Bool
 is_account text = length text == 12 && list_all is_digit text
 
--- what stands before the last 13 bytes
+-- the bytes before the last 13
 abbrev pub region_of : List ℕ → List ℕ
 region_of word = take (length word - 13) word
 

@@ -24,7 +24,7 @@ use Rattle.ecr_model.specs.declared.repository.Presence.{Presence}
 use Rattle.ecr_model.specs.declared.repository.Repository.{Repository}
 use Rattle.ecr_model.specs.Journals as journals
 
--- what a call comes to: the repository afterwards, where the call changes it, and the reply
+-- the outcome of a call: the repository afterwards, where the call changes it, and the reply
 pub record Outcome : Type 0 where
   pub after : Option Repository
   pub reply : Reply
@@ -59,7 +59,7 @@ first_state = record {
   last_pushed = 0;
 }
 
--- what is decided of a repository that is present; it is refused of another
+-- the decision for a repository that is present; for an absent one the call is refused
 abbrev pub where_present : Repository → (Presence → Outcome) → Outcome
 where_present s decide = option_map_or decide s.present (refuses RepositoryNotFound)
 
@@ -140,7 +140,7 @@ turn_of ticket sealed beside =
 abbrev pub entry_of : Turn → Call → Entry
 entry_of turn call = record { moment = turn.moment; act = Called call turn.destinations turn.sealed }
 
--- what a call on the repository of that key comes to in a turn
+-- the outcome of a call on the repository of that key in a turn
 unfoldable pub step : RepoKey → Limits → Repository → Turn → Call → Outcome
 step key limits s turn (Create mutability) = creates turn.moment mutability s
 step key limits s turn (Delete force) = deletes force s
@@ -169,7 +169,7 @@ IsSound key limits lines = journals.IsSound (after_line key limits) first_state 
 abbrev pub repository_at : RepoKey → Limits → List Line → ℕ → Repository
 repository_at key limits lines ticket = journals.state_at (after_line key limits) first_state lines ticket
 
--- what a call is answered in a turn of the journal
+-- the reply to a call in a turn of the journal
 abbrev pub reply_at : RepoKey → Limits → List Line → Turn → Call → Reply
 reply_at key limits lines turn call = (step key limits (repository_at key limits lines turn.ticket) turn call).reply
 

@@ -17,7 +17,7 @@ is_blank b = b == 13 || b == 10
 abbrev pub blank_length : List ℕ → ℕ
 blank_length bytes = prefix_len is_blank bytes
 
--- what stands at the front of the bytes
+-- the front of the bytes
 pub data Front : Type 0 where
   -- a request, and how long it is
   whole : Request → ℕ → Front
@@ -35,7 +35,7 @@ request_of at head body = record {
   minor = head.minor;
 }
 
--- what a request says before its body
+-- the head of a request
 abbrev pub head_part : Request → Head
 head_part r = record { method = r.method; target = r.target; minor = r.minor; fields = r.fields }
 
@@ -44,7 +44,7 @@ abbrev pub sized_front : ℕ → List ℕ → ℕ → BodyFront
 sized_front limit bytes size = if nat_le size limit
     then (if nat_le size (length bytes) then complete (take size bytes) size else lacks open_) else lacks (too_long limit)
 
--- what stands at the front of the bytes behind a head, within the limit of a body
+-- the front of the bytes behind a head, within the limit of a body
 abbrev pub IsBody : ℕ → List ℕ → Framing → BodyFront → Type 0
 IsBody limit bytes (Sized size) body = body ≡ sized_front limit bytes size
 IsBody limit bytes Chunked body = IsChunked limit bytes body
@@ -54,13 +54,13 @@ abbrev pub with_body : ℕ → ℕ → Head → BodyFront → Front
 with_body at n head (complete body size) = whole (request_of at head body) (n + size)
 with_body at n head (lacks lack) = short (waits head) lack
 
--- what it is, by how the head says that its body is delimited
+-- that front, by how the head says that its body is delimited
 abbrev pub IsFramed : ℕ → List ℕ → ℕ → Head → Option Framing → Front → Type 0
 IsFramed at bytes n head None front = front ≡ short false bad
 IsFramed at bytes n head (Some framing) front =
     (body : BodyFront) × IsBody (max_body head.target) (drop n bytes) framing body × (front ≡ with_body at n head body)
 
--- what it is, by where the head ends and what it says
+-- that front, by the place where the head ends
 abbrev pub IsHeaded : ℕ → List ℕ → Option ℕ → Option Head → Front → Type 0
 IsHeaded at bytes None head front = front ≡ short false (if nat_lt (length bytes) max_head then open_ else too_long max_head)
 IsHeaded at bytes (Some n) None front = front ≡ short false bad
@@ -71,7 +71,7 @@ abbrev pub ParsesTo : List ℕ → Option ℕ → Option Head → Type 0
 ParsesTo bytes None head = head ≡ None
 ParsesTo bytes (Some n) head = Parses (take n bytes) head
 
--- what stands at the front of bytes that don't begin with a blank one
+-- the front of bytes that don't begin with a blank one
 pub record IsFront (at : ℕ) (bytes : List ℕ) (front : Front) : Type 0 where
   pub end : Option ℕ
   pub head : Option Head
@@ -101,7 +101,7 @@ abbrev pub past_blank : Point → Point
 past_blank p =
     record p { at = p.at + blank_length p.ahead; ahead = drop (blank_length p.ahead) p.ahead }
 
--- what comes next, past the blank bytes
+-- the part of the stream that comes next, past the blank bytes
 abbrev pub Meets : Point → Front → Type 0
 Meets p front = IsFront (past_blank p).at (past_blank p).ahead front
 

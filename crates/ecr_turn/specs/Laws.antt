@@ -25,11 +25,11 @@ pub record Shows {B : Type 0} (lines : B → List Line) (frame : B → Frame) (f
 abbrev pub TheRuleIsTheSevenPoints : {B : Type 0} → (B → List Line) → (B → Frame) → Type 0
 TheRuleIsTheSevenPoints {B} lines frame = (fixed : Frame) (s : State (Option B) View) → Kept lines frame fixed s → Shows lines frame fixed s
 
--- what stood below a ticket that was passed on stands there in each later journal
+-- the lines below a ticket that was passed on stand there in each later journal
 abbrev pub WhatStoodStays : Type 0
 WhatStoodStays = (past ticket : ℕ) (before after : List Line) → Follows past before after → ticket ≤ past → below ticket after ≡ below ticket before
 
--- what others add leaves a caller's own lines as they were
+-- lines that others add leave a caller's own as they were
 abbrev pub OthersAddNoneOfMine : Type 0
 OthersAddNoneOfMine = (caller past : ℕ) (before after : List Line) → Grows caller past before after → of_caller caller after ≡ of_caller caller before
 

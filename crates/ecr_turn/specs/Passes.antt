@@ -10,7 +10,7 @@ pub record Gate : Type 0 where
   pub table : TableId
   pub frame : Frame
 
--- what a pass knows: its turnstile, the number of its caller, how many callers' numbers are given out, one more than the last ticket that it knows to be passed on, and the journal that it has seen
+-- the knowledge of a pass: its turnstile, the number of its caller, how many callers' numbers are given out, one more than the last ticket that it knows to be passed on, and the journal that it has seen
 pub record Known : Type 0 where
   pub gate : Gate
   pub caller : ℕ
@@ -44,11 +44,11 @@ IsNewCaller before after new = (before.callers ≤ new.caller) × (new.callers �
 abbrev pub no_frame : Frame
 no_frame = record { cell = Directory (record { region = []; account = [] }); served = []; limits = record { names = 0; images = 0; tags = 0; parts = 0; bytes = 0 } }
 
--- what is looked up where there is no pass
+-- the knowledge that is looked up where there is no pass
 abbrev pub unknown : Known
 unknown = first_pass record { table = record { words = 0; slots = 0; views_name = 0; atom = 0; block = 0; offset = 0; slot_names = [] }; frame = no_frame }
 
--- what the pass in this place knows
+-- the knowledge of the pass in this place
 abbrev pub known_in : Option Known → Known
 known_in (Some known) = known
 known_in None = unknown

@@ -2,7 +2,7 @@
 use Rattle.std.specs.Prelude.{ℕ, List, [], ◌∷◌}
 use Rattle.ecr_model.specs.declared.journal.Line.{Line}
 
--- what a register that was at n comes to by these lines: each sets it
+-- the value of a register that was at n, after these lines: each sets it
 abbrev pub replayed : ℕ → List Line → ℕ
 replayed n [] = n
 replayed n (l ∷ ls) = replayed l.entry.moment ls

@@ -15,7 +15,7 @@ use Rattle.ecr_turn.specs.Turns.{named_of, in_turn, has_learned, is_found, found
 abbrev pub newcomer : Frame → View
 newcomer fixed = record { stage = Idle; caller = 0; callers = 1; past = 0; seen = []; frame = fixed }
 
--- what the rule says of one view
+-- the rule for one view
 pub record Suits (log : List Line) (tickets serving callers : ℕ) (fixed : Frame) (v : View) : Type 0 where
   pub known : is_live v.stage ≡ true → (v.caller < callers) × Grows v.caller v.past v.seen log
   pub aware : v.callers ≤ callers

@@ -16,7 +16,7 @@ abbrev pub Lone : {B : Type 0} → (B → Type 0) → List (Option B) → Type 0
 Lone {B} P xs = (b : B) × (xs ≡ Some b ∷ []) × P b
 
 module _ {B : Type 0} where
-  -- what the pass with this seat knows
+  -- the knowledge of the pass with this seat
   abbrev pub known_of : Seat (Option B) View → Known
   known_of s = record { gate = record { table = s.table_id; frame = s.me.0.frame }; caller = s.me.0.caller; callers = s.me.0.callers; past = s.me.0.past; seen = s.me.0.seen }
 

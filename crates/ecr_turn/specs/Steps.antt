@@ -11,7 +11,7 @@ use Rattle.ecr_turn.specs.Journals.{longer_of}
 use Rattle.ecr_turn.specs.Turns.{HasTicket, joined_past, joined_seen}
 use Rattle.ecr_turn.specs.Passes.{no_frame}
 
--- what the one who makes a step knows of itself
+-- the knowledge that the maker of a step has of itself
 abbrev Mine : Type 0 → Type 0
 Mine B = Me (Option B) View
 
@@ -73,7 +73,7 @@ module _ {B : Type 0} where
   abbrev pub named : At B → Mine B → ℕ → Mine B → Type 0
   named st m r m' = (r ≡ st.first → (m' ≡ (naming r m.0, m.1)) × (r ≢ m.0.caller) × Each (λ l. l.caller ≢ r) m.0.seen × (m.0.callers ≤ r)) × (r ≢ st.first → m' ≡ m)
 
-  -- what was joined is taken in: the longer journal, and the greater `past`
+  -- the joined pass is taken in: the longer journal, and the greater `past`
   abbrev pub took_in : At B → Mine B → ℕ → Mine B → Type 0
   took_in st m r m' = (p : ℕ) (ls : List Line) → m.0.stage ≡ Joined p ls → (m' ≡ (merged m.0, m.1)) × Grows m.0.caller m.0.past m.0.seen (longer_of m.0.seen ls) × Follows p ls (longer_of m.0.seen ls)
 
