@@ -5,8 +5,8 @@ use Rattle.std.specs.Str.Parse.{ParsesUnsigned}
 use Rattle.std.proofs.lemmas.Bool.{and_parts, cond-false}
 use Rattle.std.proofs.lemmas.Bool.Decides.{nat_tests}
 use Rattle.std.proofs.lemmas.Str.Parse.{IsNumeralModel, IsDigitsTest, FoldsDigits, numerals_by_fold, parse_digits}
-use Rattle.ecr_model.specs.Members.{digits_value, is_decimal, place_of}
-use Rattle.ecr_model.specs.Sites.{is_digit}
+use Rattle.ecr_model.specs.requests.Members.{digits_value, is_decimal, place_of}
+use Rattle.ecr_model.specs.names.Sites.{is_digit}
 
 is_test : IsDigitsTest (λ ds. list_all is_digit ds ≡ true)
 is_test = record { empty = refl; parts = λ c cs e. grind (arith, nat_tests); more = λ c cs k e. grind (arith, nat_tests) }

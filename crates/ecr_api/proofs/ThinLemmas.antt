@@ -7,19 +7,19 @@ use Rattle.serde_json.specs.Data as json_data
 use Rattle.serde_json.specs.Data.{Data, Items, no_items, item, array, object, no_members}
 use Rattle.serde_json.specs.Find.{get, as_str, as_bool, as_array, as_number, as_integer, as_object}
 use Rattle.ecr_json.specs.Thin.{are_texts, first_items, max_texts, thin, IsThin, IsThinOf}
-use Rattle.ecr_model.specs.declared.action.Action.{Action}
-use Rattle.ecr_model.specs.declared.action.Domain.{Domain}
-use Rattle.ecr_model.specs.declared.action.Domain.TheVariants as domains
-use Rattle.ecr_model.specs.declared.action.Member.{Member}
+use Rattle.ecr_model.specs.declared.requests.action.Action.{Action}
+use Rattle.ecr_model.specs.declared.requests.action.Domain.{Domain}
+use Rattle.ecr_model.specs.declared.requests.action.Domain.TheVariants as domains
+use Rattle.ecr_model.specs.declared.requests.action.Member.{Member}
 use Rattle.ecr_model.specs.declared.names.SiteId.{SiteId}
-use Rattle.ecr_model.specs.declared.refusal.Parameter.{Parameter}
-use Rattle.ecr_model.specs.declared.refusal.Refusal.TheVariants.{Serialization}
-use Rattle.ecr_model.specs.Actions.{Reading, refuses, members_of, made_by, unless_bad, values_reading, typed_reading, body_reading}
-use Rattle.ecr_model.specs.Members as model
-use Rattle.ecr_model.specs.Members.{Typed, absent, text, whole, truth, texts, Valued, valued, unless_null, member_at, all_texts, as_whole, typed, typed_member, all_typed, typed_members, named_value, value_at, is_there, text_in, whole_in, truth_in, texts_in, site_of, place_of, rows_of, mutability_of, are_names, allows, stands_beside, is_bad, first_bad}
-use Rattle.ecr_model.specs.Names.{is_name}
-use Rattle.ecr_model.specs.Policies.{texts_of}
-use Rattle.ecr_model.specs.Refusals.{parameter_text}
+use Rattle.ecr_model.specs.declared.requests.refusal.Parameter.{Parameter}
+use Rattle.ecr_model.specs.declared.requests.refusal.Refusal.TheVariants.{Serialization}
+use Rattle.ecr_model.specs.requests.Actions.{Reading, refuses, members_of, made_by, unless_bad, values_reading, typed_reading, body_reading}
+use Rattle.ecr_model.specs.requests.Members as model
+use Rattle.ecr_model.specs.requests.Members.{Typed, absent, text, whole, truth, texts, Valued, valued, unless_null, member_at, all_texts, as_whole, typed, typed_member, all_typed, typed_members, named_value, value_at, is_there, text_in, whole_in, truth_in, texts_in, site_of, place_of, rows_of, mutability_of, are_names, allows, stands_beside, is_bad, first_bad}
+use Rattle.ecr_model.specs.names.Names.{is_name}
+use Rattle.ecr_model.specs.documents.Policies.{texts_of}
+use Rattle.ecr_model.specs.requests.Refusals.{parameter_text}
 use Rattle.ecr_api.specs.Named.{IsNamed, AreNamed}
 
 -- ---- one value

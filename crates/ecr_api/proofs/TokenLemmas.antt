@@ -3,11 +3,11 @@ use Rattle.std.proofs.Common.{◌≡◌, ◌∙◌, ℕ, List, [], ◌∷◌, �
 use Rattle.json.specs.Token.{Token}
 use Rattle.json.specs.Token as token
 use Rattle.serde_json.specs.Data.{Members}
-use Rattle.ecr_model.specs.declared.refusal.Refusal.{Refusal}
-use Rattle.ecr_model.specs.declared.refusal.Refusal.TheVariants.{InvalidLayerPart}
+use Rattle.ecr_model.specs.declared.requests.refusal.Refusal.{Refusal}
+use Rattle.ecr_model.specs.declared.requests.refusal.Refusal.TheVariants.{InvalidLayerPart}
 use Rattle.ecr_model.specs.declared.names.RepoKey.{RepoKey}
-use Rattle.ecr_model.specs.Refusals.{refusal_data}
-use Rattle.ecr_model.specs.Rendered.{with_token}
+use Rattle.ecr_model.specs.requests.Refusals.{refusal_data}
+use Rattle.ecr_model.specs.requests.Rendered.{with_token}
 use Rattle.ecr_api.specs.Writings.{member_tokens}
 
 -- what was appended in two steps

@@ -9,10 +9,10 @@ use Rattle.serde_json.specs.declared.value.Value.{Value}
 use Rattle.ecr_json.specs.Fields.{field, of_type}
 use Rattle.ecr_json.specs.declared.field.Field.{Field}
 use Rattle.ecr_json.specs.declared.field.Field.TheVariants.{Absent, Wrong, Here}
-use Rattle.ecr_model.specs.declared.action.Member.{Member}
-use Rattle.ecr_model.specs.Members.{Typed, Valued, absent, all_texts, all_typed, are_texts, member_at, typed_member, typed_members, valued}
-use Rattle.ecr_model.specs.Names.{is_name}
-use Rattle.ecr_model.specs.Policies.{texts_of}
+use Rattle.ecr_model.specs.declared.requests.action.Member.{Member}
+use Rattle.ecr_model.specs.requests.Members.{Typed, Valued, absent, all_texts, all_typed, are_texts, member_at, typed_member, typed_members, valued}
+use Rattle.ecr_model.specs.names.Names.{is_name}
+use Rattle.ecr_model.specs.documents.Policies.{texts_of}
 use Rattle.ecr_api.specs.Readings.{AreApart, AreMembers, IsMemberOrNone}
 use Rattle.ecr_api.specs.declared.values.Valued as kept
 use Rattle.ecr_api.specs.Values.{item_text, member_as, row_of, valued_of}

@@ -1,9 +1,9 @@
 -- The names by which a body is read thinly (Amazon ECR API Reference, "Actions").
 use Rattle.std.specs.Prelude.{◌≡◌, ℕ, true, List, [], ◌∷◌, Option, None, Some}
 use Rattle.ecr_json.specs.Thin.{is_named}
-use Rattle.ecr_model.specs.declared.action.Member.{Member}
-use Rattle.ecr_model.specs.declared.refusal.Parameter.{Parameter}
-use Rattle.ecr_model.specs.Refusals.{parameter_text}
+use Rattle.ecr_model.specs.declared.requests.action.Member.{Member}
+use Rattle.ecr_model.specs.declared.requests.refusal.Parameter.{Parameter}
+use Rattle.ecr_model.specs.requests.Refusals.{parameter_text}
 
 -- the parameter's name is one of these
 abbrev pub IsNamed : List (List ℕ) → Parameter → Type 0

@@ -1,10 +1,10 @@
 -- What was read of a body (Amazon ECR API Reference, "Actions").
 use Rattle.std.specs.Prelude.{◌≡◌, List, [], ◌∷◌, Option, None, Some, Result, Ok, Err}
-use Rattle.ecr_model.specs.declared.action.Member.{Member}
-use Rattle.ecr_model.specs.declared.refusal.Parameter.{Parameter}
-use Rattle.ecr_model.specs.declared.refusal.Parameter.TheVariants.{Manifest, Policy}
-use Rattle.ecr_model.specs.Actions as actions
-use Rattle.ecr_model.specs.Members.{Valued}
+use Rattle.ecr_model.specs.declared.requests.action.Member.{Member}
+use Rattle.ecr_model.specs.declared.requests.refusal.Parameter.{Parameter}
+use Rattle.ecr_model.specs.declared.requests.refusal.Parameter.TheVariants.{Manifest, Policy}
+use Rattle.ecr_model.specs.requests.Actions as actions
+use Rattle.ecr_model.specs.requests.Members.{Valued}
 use Rattle.ecr_blob_upload.specs.declared.call.Load.TheVariants.{Nothing}
 use Rattle.ecr_blob_upload.specs.Loads.{FitsCall, given}
 use Rattle.ecr_api.specs.declared.asked.ApiRefusal.{ApiRefusal}

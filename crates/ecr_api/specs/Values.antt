@@ -5,9 +5,9 @@ use Rattle.serde_json.specs.Data.{Data}
 use Rattle.serde_json.specs.Find.{as_str}
 use Rattle.serde_json.specs.View.{view}
 use Rattle.serde_json.specs.declared.value.Value.{Value}
-use Rattle.ecr_model.specs.Members as members
-use Rattle.ecr_model.specs.Members.{member_at}
-use Rattle.ecr_model.specs.Actions as actions
+use Rattle.ecr_model.specs.requests.Members as members
+use Rattle.ecr_model.specs.requests.Members.{member_at}
+use Rattle.ecr_model.specs.requests.Actions as actions
 use Rattle.ecr_api.specs.declared.calls.Made.{Made}
 use Rattle.ecr_api.specs.declared.calls.Made.TheVariants.{One, Several}
 use Rattle.ecr_api.specs.declared.values.Typed.{Typed}

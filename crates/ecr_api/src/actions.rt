@@ -1,7 +1,7 @@
 // The actions, and the members of their bodies (Amazon ECR API Reference, "Actions").
 ghost use Rattle.std.specs.Prelude.{◌≡◌, map};
-ghost use Rattle.ecr_model.specs.Actions.{action_of, members_of};
-ghost use Rattle.ecr_model.specs.Refusals.{parameter_text};
+ghost use Rattle.ecr_model.specs.requests.Actions.{action_of, members_of};
+ghost use Rattle.ecr_model.specs.requests.Refusals.{parameter_text};
 ghost use Rattle.ecr_api.specs.Named.{AreNamed};
 ghost use Rattle.ecr_api.specs.Readings.{AreMembers, IsMember};
 
@@ -65,7 +65,7 @@ static CHANGE_OF_MUTABILITY: [Member; 3] = [
 ];
 
 /// The action that a target names.
-#[tactic(auto, unfolding(ecr_model::specs::Actions::action_of))]
+#[tactic(auto, unfolding(ecr_model::specs::requests::Actions::action_of))]
 pub(crate) fn action_of(target: &[u8]) -> Option<Action>
     ensures { result ≡ action_of target.now }
 {
@@ -85,7 +85,7 @@ pub(crate) fn action_of(target: &[u8]) -> Option<Action>
 }
 
 /// The members of an action's body, in the order in which they are tested.
-#[tactic(auto, unfolding(ecr_model::specs::Actions::members_of))]
+#[tactic(auto, unfolding(ecr_model::specs::requests::Actions::members_of))]
 pub(crate) fn members_of(action: Action) -> &'static [Member]
     ensures exact { result.now ≡ members_of action }
     ensures named { AreMembers result.now }
@@ -99,7 +99,7 @@ pub(crate) fn members_of(action: Action) -> &'static [Member]
 }
 
 /// The names of an action's members.
-#[tactic(auto, unfolding(ecr_model::specs::Actions::members_of, ecr_model::specs::Refusals::parameter_text))]
+#[tactic(auto, unfolding(ecr_model::specs::requests::Actions::members_of, ecr_model::specs::requests::Refusals::parameter_text))]
 pub(crate) fn member_names(action: Action) -> &'static [&'static str]
     ensures { AreNamed (map (λ n. n.now) result.now) (members_of action) }
 {
@@ -114,7 +114,7 @@ pub(crate) fn member_names(action: Action) -> &'static [&'static str]
 }
 
 /// The name of a member.
-#[tactic(auto, unfolding(ecr_model::specs::Refusals::parameter_text))]
+#[tactic(auto, unfolding(ecr_model::specs::requests::Refusals::parameter_text))]
 pub(crate) fn parameter_text(parameter: Parameter) -> &'static str
     requires { IsMember parameter }
     ensures { result.now ≡ parameter_text parameter }

@@ -3,8 +3,8 @@ ghost use Rattle.std.specs.Prelude.{◌≡◌, ◌++◌, ◌∷◌, [], codes, d
 ghost use Rattle.json.specs.Token as token;
 ghost use Rattle.serde_json.specs.Data.{Data, Members, array, member, no_members, object, string};
 ghost use Rattle.serde_json.specs.Written.{compact_text};
-ghost use Rattle.ecr_model.specs.Rendered.{key_asked, mutability_text, reply_data, repository_data, rows_data, site_asked, with_token};
-ghost use Rattle.ecr_model.specs.Sites.{utf8_or_empty};
+ghost use Rattle.ecr_model.specs.requests.Rendered.{key_asked, mutability_text, reply_data, repository_data, rows_data, site_asked, with_token};
+ghost use Rattle.ecr_model.specs.names.Sites.{utf8_or_empty};
 ghost use Rattle.ecr_api.specs.Readings.{meaning};
 ghost use Rattle.ecr_api.specs.Writings.{data_tokens, member_tokens, rest_tokens, written_data};
 
@@ -29,7 +29,7 @@ struct Written<'a> {
 }
 
 /// The body of a reply to what was asked.
-#[tactic(auto, unfolding(ecr_model::specs::Rendered::reply_data))]
+#[tactic(auto, unfolding(ecr_model::specs::requests::Rendered::reply_data))]
 pub(crate) fn write_body(alloc: Global, asked: &Asked, reply: &Reply) -> Result<Vec<u8>, Mem>
     ensures { IfOk result (λ b. b.items ≡ compact_text (reply_data (meaning asked.now) reply.now)) }
 {
@@ -205,7 +205,7 @@ fn write_rows(alloc: Global, out: &mut Writer, site: &SiteId, rows: &[Described]
 }
 
 /// Writes a repository, with its moment of creation in whole seconds.
-#[tactic(auto, unfolding(ecr_model::specs::Rendered::repository_data))]
+#[tactic(auto, unfolding(ecr_model::specs::requests::Rendered::repository_data))]
 fn write_repository(
     alloc: Global,
     out: &mut Writer,

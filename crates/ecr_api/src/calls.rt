@@ -1,7 +1,7 @@
 // The call that the values of a body's members make (Amazon ECR API Reference, "Actions").
 ghost use Rattle.std.specs.Prelude.{◌≡◌, IfOk, map, option_map, unwrap_or};
-ghost use Rattle.ecr_model.specs.Actions as actions;
-ghost use Rattle.ecr_model.specs.Actions.{asks, force_in, key_in, made_by, made_in, mutability_in, names_in, page_in, site_in, text_at};
+ghost use Rattle.ecr_model.specs.requests.Actions as actions;
+ghost use Rattle.ecr_model.specs.requests.Actions.{asks, force_in, key_in, made_by, made_in, mutability_in, names_in, page_in, site_in, text_at};
 ghost use Rattle.ecr_blob_upload.specs.declared.call.Load.TheVariants.{Nothing};
 ghost use Rattle.ecr_api.specs.declared.asked.Asked.TheVariants.{Cell, Many};
 ghost use Rattle.ecr_api.specs.Readings.{meaning, FitsMade, IsMember, LoadFits};
@@ -30,7 +30,7 @@ enum Made {
 }
 
 /// The call that the values make.
-#[tactic(auto, unfolding(ecr_model::specs::Actions::made_by))]
+#[tactic(auto, unfolding(ecr_model::specs::requests::Actions::made_by))]
 pub(crate) fn made_by(
     alloc: Global,
     base: &SiteId,
@@ -48,7 +48,7 @@ pub(crate) fn made_by(
 }
 
 /// What the values of an action's members make.
-#[tactic(auto, unfolding(ecr_model::specs::Actions::made_in))]
+#[tactic(auto, unfolding(ecr_model::specs::requests::Actions::made_in))]
 fn made_in(action: Action, values: &[Valued<'_>]) -> Made
     ensures exact { made_of result ≡ made_in action (row_of values.now) }
     ensures fits { FitsMade result }

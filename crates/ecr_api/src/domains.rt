@@ -1,9 +1,9 @@
 // Which values a member may have (Amazon ECR API Reference).
 ghost use Rattle.std.specs.Prelude.{◌≡◌, ◌^◌, ◌&&◌, ◌||◌, true, nat_le, nat_lt, map, option_map, Some, None, if◌then◌else◌};
 ghost use Rattle.std.specs.List.{list_all};
-ghost use Rattle.ecr_model.specs.Members.{allows, are_names, is_decimal, mutability_of, place_of, rows_of, site_of};
-ghost use Rattle.ecr_model.specs.Names.{is_name};
-ghost use Rattle.ecr_model.specs.Sites.{is_digit};
+ghost use Rattle.ecr_model.specs.requests.Members.{allows, are_names, is_decimal, mutability_of, place_of, rows_of, site_of};
+ghost use Rattle.ecr_model.specs.names.Names.{is_name};
+ghost use Rattle.ecr_model.specs.names.Sites.{is_digit};
 ghost use Rattle.ecr_api.specs.Values.{item_text, typed_of};
 
 use crate::members::{text_in, texts_in, truth_in, whole_in};
@@ -102,7 +102,7 @@ pub(crate) fn item_text<'a>(item: &'a Value) -> &'a str
 }
 
 /// The served site of the same region with that account.
-#[tactic(auto, unfolding(ecr_model::specs::Members::site_of))]
+#[tactic(auto, unfolding(ecr_model::specs::requests::Members::site_of))]
 pub(crate) fn site_of<'a>(base: &SiteId, served: &'a [SiteId], account: &[u8]) -> Option<&'a SiteId>
     ensures { option_map (λ s. s.now) result ≡ site_of base.now served.entry.now account.now }
 {
@@ -132,7 +132,7 @@ fn below_places(place: u64) -> Option<u64>
 }
 
 /// Whether the text is `0`, or digits of which the first isn't 0.
-#[tactic(auto, unfolding(ecr_model::specs::Members::is_decimal))]
+#[tactic(auto, unfolding(ecr_model::specs::requests::Members::is_decimal))]
 fn is_decimal(text: &[u8]) -> bool
     ensures { result ≡ is_decimal text.now }
 {

@@ -1,6 +1,6 @@
 // The heads of replies (RFC 9112, sections 4 and 6).
 ghost use Rattle.std.specs.Prelude.{◌≡◌, IfOk, decimal, string_bytes};
-ghost use Rattle.ecr_model.specs.Replies.{json_head};
+ghost use Rattle.ecr_model.specs.http.Replies.{json_head};
 
 use ecr_http::connection_line;
 use ecr_model::Mem;
@@ -10,7 +10,7 @@ use std::alloc::Global;
 const HEAD_ROOM: usize = 128;
 
 /// A reply of the JSON API up to its body of so many bytes; it says `close` where the session closes after it.
-#[tactic(auto, unfolding(ecr_model::specs::Replies::json_head))]
+#[tactic(auto, unfolding(ecr_model::specs::http::Replies::json_head))]
 pub(crate) fn write_json_head(
     alloc: Global,
     close: bool,

@@ -1,7 +1,7 @@
 // The values of a body's members: by their names, and the first that is bad (Amazon ECR API Reference).
 ghost use Rattle.std.specs.Prelude.{◌≡◌, find, map, option_map};
 ghost use Rattle.std.specs.Option.{option_map_or};
-ghost use Rattle.ecr_model.specs.Members.{first_bad, is_bad, is_there, named_value, stands_beside, text_in, texts_in, truth_in, value_at, whole_in};
+ghost use Rattle.ecr_model.specs.requests.Members.{first_bad, is_bad, is_there, named_value, stands_beside, text_in, texts_in, truth_in, value_at, whole_in};
 ghost use Rattle.ecr_api.specs.Readings.{AreApart, IsMember, IsMemberOrNone};
 ghost use Rattle.ecr_api.specs.Values.{item_text, row_of, typed_of, valued_of};
 
@@ -12,7 +12,7 @@ use ecr_model::{Parameter, SiteId};
 use serde_json::Value;
 
 /// The first of the members that is bad.
-#[tactic(auto, unfolding(ecr_model::specs::Members::first_bad))]
+#[tactic(auto, unfolding(ecr_model::specs::requests::Members::first_bad))]
 pub(crate) fn first_bad(
     base: &SiteId,
     served: &[SiteId],

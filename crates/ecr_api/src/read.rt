@@ -2,8 +2,8 @@
 ghost use Rattle.std.specs.Prelude.{◌≡◌, IfOk, map, option_map};
 ghost use Rattle.serde_json.specs.View.{view};
 ghost use Rattle.ecr_json.specs.Thin.{IsThinOf};
-ghost use Rattle.ecr_model.specs.Actions.{body_reading, reading, typed_reading, values_reading};
-ghost use Rattle.ecr_model.specs.Documents.{document};
+ghost use Rattle.ecr_model.specs.requests.Actions.{body_reading, reading, typed_reading, values_reading};
+ghost use Rattle.ecr_model.specs.documents.Documents.{document};
 ghost use Rattle.ecr_api.specs.Readings.{AreApart, LoadFits, Reads};
 ghost use Rattle.ecr_api.specs.Values.{row_of};
 
@@ -23,7 +23,7 @@ use std::alloc::Global;
 /// An unknown target is refused first, then a body that isn't JSON or has a member of a wrong type, at any level, then
 /// the first member that is bad. The body is read once, and what isn't asked for in it takes no memory; it takes some
 /// for the members of the action, and for the texts of the call.
-#[tactic(auto, unfolding(ecr_model::specs::Actions::reading))]
+#[tactic(auto, unfolding(ecr_model::specs::requests::Actions::reading))]
 pub fn read_call(
     alloc: Global,
     target: &[u8],
@@ -43,7 +43,7 @@ pub fn read_call(
 /// What a target and a body ask for, as `read_call` has it, by a scratch that is kept from body to body.
 ///
 /// The scratch grows to the longest body that it was used for.
-#[tactic(auto, unfolding(ecr_model::specs::Actions::reading))]
+#[tactic(auto, unfolding(ecr_model::specs::requests::Actions::reading))]
 pub fn read_call_in(
     alloc: Global,
     scratch: &mut Scratch,
@@ -84,7 +84,7 @@ fn read_body(
 }
 
 /// What a JSON value asks of an action.
-#[tactic(auto, unfolding(ecr_model::specs::Actions::typed_reading))]
+#[tactic(auto, unfolding(ecr_model::specs::requests::Actions::typed_reading))]
 fn read_value(
     alloc: Global,
     base: &SiteId,
@@ -102,7 +102,7 @@ fn read_value(
 }
 
 /// What the values of its members ask of an action.
-#[tactic(auto, unfolding(ecr_model::specs::Actions::values_reading))]
+#[tactic(auto, unfolding(ecr_model::specs::requests::Actions::values_reading))]
 fn read_values(
     alloc: Global,
     base: &SiteId,
@@ -121,7 +121,7 @@ fn read_values(
 }
 
 /// The body's JSON reading, thinly by these names; a body that isn't UTF-8 has none.
-#[tactic(auto, unfolding(ecr_model::specs::Documents::document))]
+#[tactic(auto, unfolding(ecr_model::specs::documents::Documents::document))]
 fn read_document(
     alloc: Global,
     scratch: &mut Scratch,

@@ -302,8 +302,7 @@ fn page(alloc: Global) -> Result<Asked, Mem> {
 }
 
 /// The reply as it is sent.
-fn whole(alloc: Global, asked: &Asked, reply: &Reply, close: bool) -> Result<String, Fail>
-{
+fn whole(alloc: Global, asked: &Asked, reply: &Reply, close: bool) -> Result<String, Fail> {
     let written = write_reply(alloc, asked, reply, &[], close)?;
     let mut text = text_of(alloc, &written.head)?;
     text.push_str(text_of(alloc, &written.tail)?.as_str())?;

@@ -2,8 +2,8 @@
 ghost use Rattle.std.specs.Prelude.{◌≡◌, ◌++◌, None, Some, IfOk, if◌then◌else◌, option_and_then, option_map};
 ghost use Rattle.serde_json.specs.Find.{as_array, as_bool, as_str};
 ghost use Rattle.serde_json.specs.View.{items_view, view};
-ghost use Rattle.ecr_model.specs.Members as model;
-ghost use Rattle.ecr_model.specs.Members.{all_texts, all_typed, are_texts, as_whole, typed, typed_member, typed_members};
+ghost use Rattle.ecr_model.specs.requests.Members as model;
+ghost use Rattle.ecr_model.specs.requests.Members.{all_texts, all_typed, are_texts, as_whole, typed, typed_member, typed_members};
 ghost use Rattle.ecr_api.specs.Readings.{AreMembers, IsMember};
 ghost use Rattle.ecr_api.specs.Values.{member_as, row_of, typed_of, valued_of};
 
@@ -33,7 +33,7 @@ pub(crate) struct Valued<'a> {
 }
 
 /// The values of the members; `None` where the body is no object, or a member has another type.
-#[tactic(auto, unfolding(ecr_model::specs::Members::typed_members))]
+#[tactic(auto, unfolding(ecr_model::specs::requests::Members::typed_members))]
 pub(crate) fn typed_members<'a>(
     alloc: Global,
     members: &[Member],

@@ -1,6 +1,6 @@
 // Replies as bytes (Amazon ECR API Reference; RFC 9112).
 ghost use Rattle.std.specs.Prelude.{◌≡◌, IfOk, None};
-ghost use Rattle.ecr_model.specs.Rendered.{json, refused, status_of, with_head};
+ghost use Rattle.ecr_model.specs.requests.Rendered.{json, refused, status_of, with_head};
 ghost use Rattle.ecr_http.specs.Replies.{reply_bytes};
 ghost use Rattle.ecr_api.specs.Readings.{meaning};
 
@@ -17,7 +17,7 @@ use std::alloc::Global;
 /// closes after it. No reply shows content yet.
 ///
 /// The body is written once, into room that fits short names.
-#[tactic(auto, unfolding(ecr_model::specs::Rendered::json))]
+#[tactic(auto, unfolding(ecr_model::specs::requests::Rendered::json))]
 pub fn write_reply(
     alloc: Global,
     asked: &Asked,
@@ -32,7 +32,7 @@ pub fn write_reply(
 }
 
 /// The reply to a body that asks for nothing; it says `close` where the session closes after it.
-#[tactic(auto, unfolding(ecr_model::specs::Rendered::refused, ecr_model::specs::Refusals::refusal_body))]
+#[tactic(auto, unfolding(ecr_model::specs::requests::Rendered::refused, ecr_model::specs::requests::Refusals::refusal_body))]
 pub fn write_refused(alloc: Global, refusal: &Refusal, close: bool) -> Result<HttpReply, Mem>
     ensures exact { IfOk result (λ r. reply_bytes r ≡ refused refusal.now close) }
 {

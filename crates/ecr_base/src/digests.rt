@@ -2,7 +2,7 @@
 ghost use Rattle.std.specs.Prelude.{◌≡◌, ℕ, List, IfOk, Some, string_bytes};
 ghost use Rattle.std.specs.List.{list_all};
 ghost use Rattle.ecr_model.specs.declared.names.Digest.{Digest};
-ghost use Rattle.ecr_model.specs.Digests.{IsDigest, digest_of, digest_text, is_hex_digit, of_digits};
+ghost use Rattle.ecr_model.specs.names.Digests.{IsDigest, digest_of, digest_text, is_hex_digit, of_digits};
 
 use ecr_model::{Digest, Mem};
 use hex::FromHex;
@@ -17,7 +17,7 @@ const TEXT_LENGTH: usize = 71;
 /// The digest that the text is, or `None` where it isn't one.
 ///
 /// The length is tested first. It takes no memory.
-#[tactic(auto, unfolding(ecr_model::specs::Digests::digest_of))]
+#[tactic(auto, unfolding(ecr_model::specs::names::Digests::digest_of))]
 pub fn read_digest(text: &[u8]) -> Option<Digest>
     ensures { result ≡ digest_of text.now }
 {
@@ -29,7 +29,7 @@ pub fn read_digest(text: &[u8]) -> Option<Digest>
 }
 
 /// `sha256:` and the digest's 64 digits.
-#[tactic(auto, unfolding(ecr_model::specs::Digests::digest_text))]
+#[tactic(auto, unfolding(ecr_model::specs::names::Digests::digest_text))]
 pub fn write_digest(alloc: Global, digest: &Digest) -> Result<String, Mem>
     ensures { IfOk result (λ text. string_bytes text ≡ digest_text digest.now) }
 {

@@ -1,6 +1,6 @@
 // Names of repositories (OCI Distribution 1.1, "Pulling manifests", `<name>`).
 ghost use Rattle.std.specs.Prelude.{◌≡◌, ◌↔◌, ℕ, List, IsTrue, IfOk, MatchOption};
-ghost use Rattle.ecr_model.specs.Names.{IsName, after_dash, after_underscore, after_word, at_word, is_alphanumeric, is_name, name_of};
+ghost use Rattle.ecr_model.specs.names.Names.{IsName, after_dash, after_underscore, after_word, at_word, is_alphanumeric, is_name, name_of};
 
 use ecr_model::{Mem, Name, SharedText};
 use std::alloc::Global;
@@ -14,7 +14,7 @@ const MAX_LENGTH: usize = 256;
 /// Whether the text is a name.
 ///
 /// The length is tested first, so a text of any length is answered in the time of 256 bytes.
-#[tactic(auto, unfolding(ecr_model::specs::Names::is_name))]
+#[tactic(auto, unfolding(ecr_model::specs::names::Names::is_name))]
 pub fn is_name(text: &[u8]) -> bool
     ensures exact { IsTrue result ↔ IsName text.now }
     ensures computed { result ≡ is_name text.now }
@@ -23,7 +23,7 @@ pub fn is_name(text: &[u8]) -> bool
 }
 
 /// The name that the text is, or `None` where it isn't one.
-#[tactic(auto, unfolding(ecr_model::specs::Names::name_of))]
+#[tactic(auto, unfolding(ecr_model::specs::names::Names::name_of))]
 pub fn read_name(alloc: Global, text: &[u8]) -> Result<Option<Name>, Mem>
     ensures exact { IfOk result
         (λ o. MatchOption o (¬ (IsName text.now)) (λ name. (name.text ≡ text.now) × IsName text.now)) }

@@ -4,7 +4,7 @@ ghost use Rattle.std.specs.Bool.{OnTrue};
 ghost use Rattle.std.specs.List.{list_all};
 ghost use Rattle.ecr_model.specs.declared.names.Name.{Name};
 ghost use Rattle.ecr_model.specs.declared.names.SiteId.{SiteId};
-ghost use Rattle.ecr_model.specs.Sites.{IsSite, ReadsSite, arn_of, is_account, is_digit, is_region, is_region_byte, is_site_word, site_of, site_word, uri_of, utf8_or_empty};
+ghost use Rattle.ecr_model.specs.names.Sites.{IsSite, ReadsSite, arn_of, is_account, is_digit, is_region, is_region_byte, is_site_word, site_of, site_word, uri_of, utf8_or_empty};
 
 use ecr_model::{Mem, RepoKey, SharedText, SiteId};
 use std::alloc::Global;
@@ -41,7 +41,7 @@ pub fn write_arn(alloc: Global, key: &RepoKey) -> Result<String, Mem>
 }
 
 /// The ARN of the repository of that name at the site.
-#[tactic(auto, unfolding(ecr_model::specs::Sites::arn_of))]
+#[tactic(auto, unfolding(ecr_model::specs::names::Sites::arn_of))]
 pub fn write_arn_at(alloc: Global, site: &SiteId, name: &[u8]) -> Result<String, Mem>
     ensures { IfOk result
         (λ text. string_bytes text ≡ arn_of (record { site = site.now; name = record { text = name.now } })) }
@@ -64,7 +64,7 @@ pub fn write_uri(alloc: Global, key: &RepoKey) -> Result<String, Mem>
 }
 
 /// The URI of the repository of that name at the site.
-#[tactic(auto, unfolding(ecr_model::specs::Sites::uri_of))]
+#[tactic(auto, unfolding(ecr_model::specs::names::Sites::uri_of))]
 pub fn write_uri_at(alloc: Global, site: &SiteId, name: &[u8]) -> Result<String, Mem>
     ensures { IfOk result
         (λ text. string_bytes text ≡ uri_of (record { site = site.now; name = record { text = name.now } })) }
@@ -89,7 +89,7 @@ pub fn utf8_or_empty(bytes: &[u8]) -> &str
 }
 
 /// Whether the word is a region, a `/` and an account.
-#[tactic(auto, unfolding(ecr_model::specs::Sites::is_site_word))]
+#[tactic(auto, unfolding(ecr_model::specs::names::Sites::is_site_word))]
 fn is_site_word(word: &[u8]) -> bool
     ensures computed { result ≡ is_site_word word.now }
     ensures long { OnTrue result (13 < length word.now) }

@@ -1,7 +1,7 @@
 // Tags (OCI Distribution 1.1, "Pulling manifests", `<reference>` as a tag).
 ghost use Rattle.std.specs.Prelude.{◌≡◌, IfOk};
 ghost use Rattle.std.specs.List.{list_all};
-ghost use Rattle.ecr_model.specs.Tags.{begins_tag, is_tag, is_tag_byte, tag_of};
+ghost use Rattle.ecr_model.specs.names.Tags.{begins_tag, is_tag, is_tag_byte, tag_of};
 
 use ecr_model::{Mem, SharedText, Tag};
 use std::alloc::Global;
@@ -12,7 +12,7 @@ const MAX_REST: usize = 127;
 /// Whether the text is a tag: `[a-zA-Z0-9_][a-zA-Z0-9._-]{0,127}`.
 ///
 /// The length is tested before the bytes after the first, so a text of any length is answered in the time of 128 bytes.
-#[tactic(auto, unfolding(ecr_model::specs::Tags::is_tag))]
+#[tactic(auto, unfolding(ecr_model::specs::names::Tags::is_tag))]
 pub fn is_tag(text: &[u8]) -> bool
     ensures exact { result ≡ is_tag text.now }
 {
@@ -23,7 +23,7 @@ pub fn is_tag(text: &[u8]) -> bool
 }
 
 /// The tag that the text is, or `None` where it isn't one.
-#[tactic(auto, unfolding(ecr_model::specs::Tags::tag_of))]
+#[tactic(auto, unfolding(ecr_model::specs::names::Tags::tag_of))]
 pub fn read_tag(alloc: Global, text: &[u8]) -> Result<Option<Tag>, Mem>
     ensures exact { IfOk result (λ o. o ≡ tag_of text.now) }
 {

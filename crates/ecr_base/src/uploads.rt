@@ -1,13 +1,13 @@
 // The ids of uploads (of this registry).
 ghost use Rattle.std.specs.Prelude.{◌≡◌, IfOk, string_bytes};
-ghost use Rattle.ecr_model.specs.Uploads.{upload_id};
+ghost use Rattle.ecr_model.specs.names.Uploads.{upload_id};
 
 use ecr_model::Mem;
 use std::alloc::Global;
 
 /// The id of an upload's number: 32 lower-case hexadecimal digits in groups of 8, 4, 4, 4 and 12, as
 /// `00000000-0000-0000-0000-000000000001`.
-#[tactic(auto, unfolding(ecr_model::specs::Uploads::upload_id, hex::specs::Hex::encode_with))]
+#[tactic(auto, unfolding(ecr_model::specs::names::Uploads::upload_id, hex::specs::Hex::encode_with))]
 pub fn write_upload_id(alloc: Global, number: u64) -> Result<String, Mem>
     ensures exact { IfOk result (λ s. string_bytes s ≡ upload_id number) }
 {

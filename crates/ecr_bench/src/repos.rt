@@ -1,6 +1,6 @@
 // Changes of one repository.
 ghost use Rattle.std.specs.Prelude.{◌≡◌, ◌≤◌, ◌+◌, ◌<◌, ◌^◌, [], IfOk, OnOk};
-ghost use Rattle.ecr_model.specs.Journals.{past};
+ghost use Rattle.ecr_model.specs.registry.Journals.{past};
 
 use ecr_blob_upload::Load;
 use ecr_model::{Call, Limits, Line, Mem, Mutability, Name, RepoKey, SharedText, SiteId};

@@ -1,11 +1,11 @@
--- Laws of the definition in ecr_model/specs/Content.antt.
+-- Laws of the definition in ecr_model/specs/registry/Content.antt.
 use Rattle.std.proofs.Common.{ℕ, zero, suc, ◌<◌, List, [], ◌∷◌, ◌++◌, arith, slice_index}
 use Rattle.std.specs.Int.{byte_at, bytes_high_first, to_be_bytes, w32}
 use Rattle.hex.specs.Hex.{IsBytes}
 use Rattle.sha2.specs.Sha256.{digest_bytes, sha256}
 use Rattle.sha2.proofs.Facts256.{length-sha256}
-use Rattle.ecr_model.specs.Content.{content_digest}
-use Rattle.ecr_model.specs.Digests.{IsDigest}
+use Rattle.ecr_model.specs.registry.Content.{content_digest}
+use Rattle.ecr_model.specs.names.Digests.{IsDigest}
 
 -- bytes and then bytes are bytes
 IsBytes-append : (xs ys : List ℕ) → IsBytes xs → IsBytes ys → IsBytes (xs ++ ys)

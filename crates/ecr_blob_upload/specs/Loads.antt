@@ -1,6 +1,6 @@
 -- The content that comes with a call (Amazon ECR API Reference, UploadLayerPart, PutImage).
 use Rattle.std.specs.Prelude.{◌≡◌, ℕ, List, Option, None}
-use Rattle.ecr_model.specs.declared.call.Call.{Call}
+use Rattle.ecr_model.specs.declared.requests.call.Call.{Call}
 use Rattle.ecr_blob_upload.specs.declared.call.Load.{Load}
 use Rattle.ecr_blob_upload.specs.declared.call.Load.TheVariants.{Nothing}
 

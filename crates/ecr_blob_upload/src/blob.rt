@@ -1,6 +1,6 @@
 // Bytes that are named by their digest.
 ghost use Rattle.std.specs.Prelude.{◌≡◌, IfOk};
-ghost use Rattle.ecr_model.specs.Content.{content_digest};
+ghost use Rattle.ecr_model.specs.registry.Content.{content_digest};
 
 use crate::Bytes;
 use ecr_model::{Digest, Mem};
@@ -18,7 +18,7 @@ pub struct Blob {
 
 impl Model for Blob {
     ghost use Rattle.std.specs.Prelude.{◌≡◌, List, ℕ};
-    ghost use Rattle.ecr_model.specs.Content.{content_digest};
+    ghost use Rattle.ecr_model.specs.registry.Content.{content_digest};
 
     ghost Value = { List ℕ };
 
@@ -65,7 +65,7 @@ impl Blob {
 }
 
 // The SHA-256 of the bytes.
-#[tactic(auto, unfolding(ecr_model::specs::Content::content_digest))]
+#[tactic(auto, unfolding(ecr_model::specs::registry::Content::content_digest))]
 fn content_digest(bytes: &[u8]) -> Digest
     ensures { result ≡ content_digest bytes.now }
 {

@@ -1,8 +1,8 @@
 // What holds of all content. The functions do nothing: their contracts are the laws.
 ghost use Rattle.std.specs.Prelude.{ℕ, List};
 ghost use Rattle.std.specs.Thread.{IsSend, IsSync};
-ghost use Rattle.ecr_model.specs.Content.{content_digest};
-ghost use Rattle.ecr_model.specs.Digests.{IsDigest};
+ghost use Rattle.ecr_model.specs.registry.Content.{content_digest};
+ghost use Rattle.ecr_model.specs.names.Digests.{IsDigest};
 ghost use Rattle.ecr_blob_upload.specs.contracts.blob.Blob.{the_row as blob};
 ghost use Rattle.ecr_blob_upload.specs.contracts.bytes.Bytes.{the_row as bytes};
 ghost use Rattle.ecr_blob_upload.specs.contracts.call.Load.{the_row as load};

@@ -2,7 +2,7 @@
 use denote.Param.Send.{IsSend, sendable}
 use Rattle.std.proofs.Crossing.{crosses}
 use Rattle.std.proofs.MapsCrossing as maps
-use Rattle.ecr_model.proofs.CrossingLemmas.{Line-send, Name-send, SiteId-send}
+use Rattle.ecr_model.proofs.lemmas.registry.CrossingLemmas.{Line-send, Name-send, SiteId-send}
 use Rattle.ecr_site.proofs.CrossingLemmas.{SiteState-send}
 use Rattle.ecr_repo.specs.contracts.state.RepoState as RepoState
 use Rattle.ecr_cells.specs.contracts.site_cells.SiteCells as SiteCells

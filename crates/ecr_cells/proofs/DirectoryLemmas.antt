@@ -1,18 +1,18 @@
 -- The laws of a turn in a directory.
 use Rattle.std.proofs.Common.{◌≡◌, ◌≤◌, ℕ, Bool, Option, None, is_some, option_map, refl, sym, ap, ◌∙◌}
-use Rattle.ecr_model.specs.declared.call.Call.{Call}
-use Rattle.ecr_model.specs.declared.call.SiteCall.{SiteCall}
-use Rattle.ecr_model.specs.declared.directory.Registered.{Registered}
-use Rattle.ecr_model.specs.declared.directory.Registered.TheVariants.{New, Known, Full}
-use Rattle.ecr_model.specs.declared.journal.Act.{Act}
+use Rattle.ecr_model.specs.declared.requests.call.Call.{Call}
+use Rattle.ecr_model.specs.declared.requests.call.SiteCall.{SiteCall}
+use Rattle.ecr_model.specs.declared.registry.directory.Registered.{Registered}
+use Rattle.ecr_model.specs.declared.registry.directory.Registered.TheVariants.{New, Known, Full}
+use Rattle.ecr_model.specs.declared.registry.journal.Act.{Act}
 use Rattle.ecr_model.specs.declared.names.Name.{Name}
-use Rattle.ecr_model.specs.declared.reply.SiteReply.{SiteReply}
-use Rattle.ecr_model.specs.Directories as directories
-use Rattle.ecr_model.specs.Directories.{first_directory, after_line, is_registered, line_of}
-use Rattle.ecr_model.specs.Journals.{past}
-use Rattle.ecr_model.specs.Scripts.{Ask, knows, register, site_call, call, known, registered, listed, registers, acts, directory_turn, lines_after}
-use Rattle.ecr_model.specs.Steps.{Beside}
-use Rattle.ecr_model.proofs.JournalLemmas.{the_last_is_now}
+use Rattle.ecr_model.specs.declared.requests.reply.SiteReply.{SiteReply}
+use Rattle.ecr_model.specs.registry.Directories as directories
+use Rattle.ecr_model.specs.registry.Directories.{first_directory, after_line, is_registered, line_of}
+use Rattle.ecr_model.specs.registry.Journals.{past}
+use Rattle.ecr_model.specs.registry.Scripts.{Ask, knows, register, site_call, call, known, registered, listed, registers, acts, directory_turn, lines_after}
+use Rattle.ecr_model.specs.registry.Steps.{Beside}
+use Rattle.ecr_model.proofs.lemmas.registry.JournalLemmas.{the_last_is_now}
 use Rattle.ecr_site.specs.States as sites
 use Rattle.ecr_site.specs.States.{SiteJournal, frame_of_journal, directory_of, registration_in, outcome_in, after_register}
 use Rattle.ecr_cells.specs.declared.deed.Done.TheVariants as done

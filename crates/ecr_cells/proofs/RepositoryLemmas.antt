@@ -1,17 +1,17 @@
 -- The laws of a turn in a repository.
 use Rattle.std.proofs.Common.{◌≡◌, ◌≤◌, ℕ, List, Option, None, Some, [], is_some, option_map, if◌then◌else◌, refl, sym, ap, ◌∙◌, subst}
 use Rattle.ecr_blob_upload.specs.declared.call.Outcome.{Outcome}
-use Rattle.ecr_model.specs.declared.call.Call.{Call}
-use Rattle.ecr_model.specs.declared.call.SiteCall.{SiteCall}
-use Rattle.ecr_model.specs.declared.journal.CellKey.TheVariants.{Repository}
-use Rattle.ecr_model.specs.declared.journal.Place.{Place}
+use Rattle.ecr_model.specs.declared.requests.call.Call.{Call}
+use Rattle.ecr_model.specs.declared.requests.call.SiteCall.{SiteCall}
+use Rattle.ecr_model.specs.declared.registry.journal.CellKey.TheVariants.{Repository}
+use Rattle.ecr_model.specs.declared.registry.journal.Place.{Place}
 use Rattle.ecr_model.specs.declared.names.Name.{Name}
-use Rattle.ecr_model.specs.declared.repository.Repository as kept
-use Rattle.ecr_model.specs.Journals.{past}
-use Rattle.ecr_model.specs.Requests.{beside_of}
-use Rattle.ecr_model.specs.Scripts.{Ask, knows, register, site_call, call, Turned, replied, replies, lines_after}
-use Rattle.ecr_model.specs.Steps.{Turn, first_state, step, after_line, IsSound, entry_of, line_of}
-use Rattle.ecr_model.proofs.JournalLemmas.{the_last_is_now}
+use Rattle.ecr_model.specs.declared.registry.repository.Repository as kept
+use Rattle.ecr_model.specs.registry.Journals.{past}
+use Rattle.ecr_model.specs.requests.Requests.{beside_of}
+use Rattle.ecr_model.specs.registry.Scripts.{Ask, knows, register, site_call, call, Turned, replied, replies, lines_after}
+use Rattle.ecr_model.specs.registry.Steps.{Turn, first_state, step, after_line, IsSound, entry_of, line_of}
+use Rattle.ecr_model.proofs.lemmas.registry.JournalLemmas.{the_last_is_now}
 use Rattle.ecr_repo.specs.States.{State, turn_at, outcome_of, reply_to, changes, after_call, with_entry}
 use Rattle.ecr_cells.specs.declared.deed.Done.{Done}
 use Rattle.ecr_cells.specs.declared.deed.Done.TheVariants as done

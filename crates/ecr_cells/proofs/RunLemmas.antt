@@ -1,18 +1,18 @@
 -- The turns of one caller as runs of scripts.
 use Rattle.std.proofs.Common.{◌≡◌, ℕ, true, false, List, [], ◌∷◌, Option, None, Some, refl, ap, subst, arith}
-use Rattle.ecr_model.specs.declared.call.Call.{Call}
-use Rattle.ecr_model.specs.declared.call.SiteCall.{SiteCall}
-use Rattle.ecr_model.specs.declared.directory.Registered.TheVariants.{New, Known, Full}
-use Rattle.ecr_model.specs.declared.journal.CellKey.{CellKey}
-use Rattle.ecr_model.specs.declared.journal.CellKey.TheVariants.{Directory, Repository}
-use Rattle.ecr_model.specs.declared.journal.Place.{Place}
+use Rattle.ecr_model.specs.declared.requests.call.Call.{Call}
+use Rattle.ecr_model.specs.declared.requests.call.SiteCall.{SiteCall}
+use Rattle.ecr_model.specs.declared.registry.directory.Registered.TheVariants.{New, Known, Full}
+use Rattle.ecr_model.specs.declared.registry.journal.CellKey.{CellKey}
+use Rattle.ecr_model.specs.declared.registry.journal.CellKey.TheVariants.{Directory, Repository}
+use Rattle.ecr_model.specs.declared.registry.journal.Place.{Place}
 use Rattle.ecr_model.specs.declared.names.RepoKey.{RepoKey}
 use Rattle.ecr_model.specs.declared.names.SiteId.{SiteId}
-use Rattle.ecr_model.specs.declared.refusal.Refusal.{Refusal}
-use Rattle.ecr_model.specs.declared.reply.Reply.TheVariants.{Refused}
-use Rattle.ecr_model.specs.Requests.{plain, beside_of, first_ask, first_turn, cell_turn, then_cell, site_script, reply_told, site_told}
-use Rattle.ecr_model.specs.Scripts.{Ask, Told, call, site_call, ends, turn, then_do, run}
-use Rattle.ecr_model.specs.Soundness.{AreSound}
+use Rattle.ecr_model.specs.declared.requests.refusal.Refusal.{Refusal}
+use Rattle.ecr_model.specs.declared.requests.reply.Reply.TheVariants.{Refused}
+use Rattle.ecr_model.specs.requests.Requests.{plain, beside_of, first_ask, first_turn, cell_turn, then_cell, site_script, reply_told, site_told}
+use Rattle.ecr_model.specs.registry.Scripts.{Ask, Told, call, site_call, ends, turn, then_do, run}
+use Rattle.ecr_model.specs.registry.Soundness.{AreSound}
 use Rattle.ecr_desk.specs.Desks.{DeskState, StillState, seen_by, Ran, Runs}
 use Rattle.ecr_desk.proofs.DeskLemmas.{Ran-ends, Ran-then, Runs-ran}
 use Rattle.ecr_cells.specs.declared.deed.Done.{Done}

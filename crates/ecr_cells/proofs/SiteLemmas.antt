@@ -5,20 +5,20 @@ use Rattle.std.specs.Option.{option_map_or}
 use Rattle.std.specs.Ordering.{is_eq}
 use Rattle.std.proofs.lemmas.Bool.{both_ways, cond_both, cond-true, and_from}
 use Rattle.std.proofs.lemmas.Slice.Eq.{bytes_eq-Decides}
-use Rattle.ecr_model.specs.declared.journal.CellKey.{CellKey}
-use Rattle.ecr_model.specs.declared.journal.CellKey.TheVariants.{Directory, Repository}
-use Rattle.ecr_model.specs.declared.journal.Entry.{Entry}
-use Rattle.ecr_model.specs.declared.journal.Limits.{Limits}
-use Rattle.ecr_model.specs.declared.journal.Line.{Line}
-use Rattle.ecr_model.specs.declared.journal.Place.{Place}
+use Rattle.ecr_model.specs.declared.registry.journal.CellKey.{CellKey}
+use Rattle.ecr_model.specs.declared.registry.journal.CellKey.TheVariants.{Directory, Repository}
+use Rattle.ecr_model.specs.declared.registry.journal.Entry.{Entry}
+use Rattle.ecr_model.specs.declared.registry.journal.Limits.{Limits}
+use Rattle.ecr_model.specs.declared.registry.journal.Line.{Line}
+use Rattle.ecr_model.specs.declared.registry.journal.Place.{Place}
 use Rattle.ecr_model.specs.declared.names.Name.{Name}
 use Rattle.ecr_model.specs.declared.names.RepoKey.{RepoKey}
 use Rattle.ecr_model.specs.declared.names.SiteId.{SiteId}
-use Rattle.ecr_model.specs.Directories.{name_order}
-use Rattle.ecr_model.specs.Journals.{past, past_from}
-use Rattle.ecr_model.specs.Requests.{key_at}
-use Rattle.ecr_model.specs.Scripts.{Ask, Told, Turned, turn_at, repository_turn, lines_after, place_of, same_cell, same_key, same_site}
-use Rattle.ecr_model.proofs.CellLemmas.{is_eq-name_order, same_site-self}
+use Rattle.ecr_model.specs.registry.Directories.{name_order}
+use Rattle.ecr_model.specs.registry.Journals.{past, past_from}
+use Rattle.ecr_model.specs.requests.Requests.{key_at}
+use Rattle.ecr_model.specs.registry.Scripts.{Ask, Told, Turned, turn_at, repository_turn, lines_after, place_of, same_cell, same_key, same_site}
+use Rattle.ecr_model.proofs.lemmas.registry.CellLemmas.{is_eq-name_order, same_site-self}
 use Rattle.ecr_repo.specs.States.{State}
 use Rattle.ecr_site.specs.States.{SiteJournal}
 use Rattle.ecr_cells.specs.declared.deed.Done.{Done}

@@ -7,20 +7,20 @@ use Rattle.std.proofs.Math.Path.{fun_ext}
 use Rattle.std.proofs.lemmas.Bool.{cases_Bool, cond_both, cond-true}
 use Rattle.std.proofs.lemmas.Option.{IfSome_then}
 use Rattle.std.proofs.lemmas.List.Elements.{All-contains, All-weaker}
-use Rattle.ecr_model.specs.declared.journal.CellKey.{CellKey}
-use Rattle.ecr_model.specs.declared.journal.CellKey.TheVariants.{Directory, Repository}
-use Rattle.ecr_model.specs.declared.journal.Entry.{Entry}
-use Rattle.ecr_model.specs.declared.journal.Limits.{Limits}
-use Rattle.ecr_model.specs.declared.journal.Line.{Line}
-use Rattle.ecr_model.specs.declared.journal.Place.{Place}
+use Rattle.ecr_model.specs.declared.registry.journal.CellKey.{CellKey}
+use Rattle.ecr_model.specs.declared.registry.journal.CellKey.TheVariants.{Directory, Repository}
+use Rattle.ecr_model.specs.declared.registry.journal.Entry.{Entry}
+use Rattle.ecr_model.specs.declared.registry.journal.Limits.{Limits}
+use Rattle.ecr_model.specs.declared.registry.journal.Line.{Line}
+use Rattle.ecr_model.specs.declared.registry.journal.Place.{Place}
 use Rattle.ecr_model.specs.declared.names.SiteId.{SiteId}
-use Rattle.ecr_model.specs.Journals.{past}
-use Rattle.ecr_model.specs.Scripts.{Ask, Told, Realm, World, Turned, same_cell, same_key, with_lines, lines_after, place_of, parts_after, parts_left, is_uploading, fresh, entered, next_turn, count_of}
-use Rattle.ecr_model.specs.Sites.{site_order}
-use Rattle.ecr_model.specs.Soundness.{IsSoundIn, AreSound}
-use Rattle.ecr_model.specs.Steps.{replay}
-use Rattle.ecr_model.proofs.CellLemmas.{is_eq-site_order, same_site-self, same_site-same}
-use Rattle.ecr_model.proofs.SoundnessLemmas.{same_cell-same, sound-empty, sound-entered}
+use Rattle.ecr_model.specs.registry.Journals.{past}
+use Rattle.ecr_model.specs.registry.Scripts.{Ask, Told, Realm, World, Turned, same_cell, same_key, with_lines, lines_after, place_of, parts_after, parts_left, is_uploading, fresh, entered, next_turn, count_of}
+use Rattle.ecr_model.specs.names.Sites.{site_order}
+use Rattle.ecr_model.specs.registry.Soundness.{IsSoundIn, AreSound}
+use Rattle.ecr_model.specs.registry.Steps.{replay}
+use Rattle.ecr_model.proofs.lemmas.registry.CellLemmas.{is_eq-site_order, same_site-self, same_site-same}
+use Rattle.ecr_model.proofs.lemmas.registry.SoundnessLemmas.{same_cell-same, sound-empty, sound-entered}
 use Rattle.ecr_cells.specs.SiteCells.{Site, lines_of, site_of, realm_of, turn_after, IsSame}
 use Rattle.ecr_cells.specs.Desks.{site_at, lines_at, world_of, IsOfSite, AreKept, IsServed, empty_site, AreEmpty, Adds, Changes, Turns, Rests, Took, seen_of}
 

@@ -1,13 +1,13 @@
 -- The turns of cells as the program makes them: a question with its content, and its answer (docs/DECISIONS.md, "Scripts").
 use Rattle.std.specs.Prelude.{Bool, true, false, Option, None, Some}
 use Rattle.ecr_blob_upload.specs.Loads.{FitsCall, given}
-use Rattle.ecr_model.specs.declared.directory.Registered.{Registered as Result}
-use Rattle.ecr_model.specs.declared.directory.Registered.TheVariants as results
-use Rattle.ecr_model.specs.declared.refusal.Refusal.{Refusal}
-use Rattle.ecr_model.specs.declared.refusal.Refusal.TheVariants.{RepositoryNotFound, LimitExceeded}
-use Rattle.ecr_model.specs.Contents.{AreContents}
-use Rattle.ecr_model.specs.Requests.{beside_of}
-use Rattle.ecr_model.specs.Scripts.{Ask, knows, register, site_call, call, Told, known, registered, listed, replied, nothing}
+use Rattle.ecr_model.specs.declared.registry.directory.Registered.{Registered as Result}
+use Rattle.ecr_model.specs.declared.registry.directory.Registered.TheVariants as results
+use Rattle.ecr_model.specs.declared.requests.refusal.Refusal.{Refusal}
+use Rattle.ecr_model.specs.declared.requests.refusal.Refusal.TheVariants.{RepositoryNotFound, LimitExceeded}
+use Rattle.ecr_model.specs.registry.Contents.{AreContents}
+use Rattle.ecr_model.specs.requests.Requests.{beside_of}
+use Rattle.ecr_model.specs.registry.Scripts.{Ask, knows, register, site_call, call, Told, known, registered, listed, replied, nothing}
 use Rattle.ecr_cells.specs.declared.deed.Deed.{Deed}
 use Rattle.ecr_cells.specs.declared.deed.Deed.TheVariants.{Knows, Register, OnSite, OnRepository}
 use Rattle.ecr_cells.specs.declared.deed.Done.{Done}

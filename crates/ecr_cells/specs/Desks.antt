@@ -3,14 +3,14 @@ use Rattle.std.specs.Prelude.{◌≡◌, ℕ, ◌+◌, List, [], ◌∷◌, Opti
 use Rattle.std.specs.BTreeMap.{is_at}
 use Rattle.std.specs.Map.{lookup}
 use Rattle.std.specs.Option.{option_map_or}
-use Rattle.ecr_model.specs.declared.journal.CellKey.{CellKey}
-use Rattle.ecr_model.specs.declared.journal.Limits.{Limits}
-use Rattle.ecr_model.specs.declared.journal.Line.{Line}
-use Rattle.ecr_model.specs.declared.journal.Place.{Place}
+use Rattle.ecr_model.specs.declared.registry.journal.CellKey.{CellKey}
+use Rattle.ecr_model.specs.declared.registry.journal.Limits.{Limits}
+use Rattle.ecr_model.specs.declared.registry.journal.Line.{Line}
+use Rattle.ecr_model.specs.declared.registry.journal.Place.{Place}
 use Rattle.ecr_model.specs.declared.names.SiteId.{SiteId}
-use Rattle.ecr_model.specs.Scripts.{Ask, Told, World, next_ticket, next_turn, entered, place_of, count_of}
-use Rattle.ecr_model.specs.Sites.{site_order}
-use Rattle.ecr_model.specs.Soundness.{AreSound}
+use Rattle.ecr_model.specs.registry.Scripts.{Ask, Told, World, next_ticket, next_turn, entered, place_of, count_of}
+use Rattle.ecr_model.specs.names.Sites.{site_order}
+use Rattle.ecr_model.specs.registry.Soundness.{AreSound}
 use Rattle.ecr_desk.specs.Desks.{DeskState, StillState, seen_by}
 use Rattle.ecr_cells.specs.SiteCells.{Site, lines_of, site_of, IsQuiet, IsTurn}
 

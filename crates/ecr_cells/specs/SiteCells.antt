@@ -3,17 +3,17 @@ use Rattle.std.specs.Prelude.{◌≡◌, false, cond, List, [], length, None, Op
 use Rattle.std.specs.BTreeMap.{is_at}
 use Rattle.std.specs.Map.{lookup}
 use Rattle.std.specs.Option.{option_map_or}
-use Rattle.ecr_model.specs.declared.journal.CellKey.{CellKey}
-use Rattle.ecr_model.specs.declared.journal.CellKey.TheVariants.{Directory, Repository}
-use Rattle.ecr_model.specs.declared.journal.Limits.{Limits}
-use Rattle.ecr_model.specs.declared.journal.Line.{Line}
-use Rattle.ecr_model.specs.declared.journal.Place.{Place}
+use Rattle.ecr_model.specs.declared.registry.journal.CellKey.{CellKey}
+use Rattle.ecr_model.specs.declared.registry.journal.CellKey.TheVariants.{Directory, Repository}
+use Rattle.ecr_model.specs.declared.registry.journal.Limits.{Limits}
+use Rattle.ecr_model.specs.declared.registry.journal.Line.{Line}
+use Rattle.ecr_model.specs.declared.registry.journal.Place.{Place}
 use Rattle.ecr_model.specs.declared.names.Name.{Name}
 use Rattle.ecr_model.specs.declared.names.SiteId.{SiteId}
-use Rattle.ecr_model.specs.Directories.{name_order}
-use Rattle.ecr_model.specs.Journals.{past}
-use Rattle.ecr_model.specs.Requests.{key_at}
-use Rattle.ecr_model.specs.Scripts.{Ask, Told, Realm, Turned, turn_at, lines_after, place_of, same_cell}
+use Rattle.ecr_model.specs.registry.Directories.{name_order}
+use Rattle.ecr_model.specs.registry.Journals.{past}
+use Rattle.ecr_model.specs.requests.Requests.{key_at}
+use Rattle.ecr_model.specs.registry.Scripts.{Ask, Told, Realm, Turned, turn_at, lines_after, place_of, same_cell}
 use Rattle.ecr_repo.specs.States.{State}
 use Rattle.ecr_site.specs.States.{SiteJournal}
 use Rattle.ecr_cells.specs.Turns.{turn_in_repository}

@@ -1,7 +1,7 @@
 -- A turn in the state of one cell, and how it leaves it (docs/DECISIONS.md, "Scripts"). Tickets count from 0.
 use Rattle.std.specs.Prelude.{◌≡◌, ℕ, None, is_some}
-use Rattle.ecr_model.specs.Directories.{directory_at}
-use Rattle.ecr_model.specs.Scripts.{Ask, Turned, directory_turn, repository_turn, lines_after}
+use Rattle.ecr_model.specs.registry.Directories.{directory_at}
+use Rattle.ecr_model.specs.registry.Scripts.{Ask, Turned, directory_turn, repository_turn, lines_after}
 use Rattle.ecr_repo.specs.States.{State}
 use Rattle.ecr_site.specs.States.{SiteJournal, frame_of_journal}
 use Rattle.ecr_cells.specs.declared.deed.Done.{Done}

@@ -1,6 +1,6 @@
 // The cells of all sites.
 ghost use Rattle.std.specs.Prelude.{◌≡◌, IfOk, OnOk, OnErr};
-ghost use Rattle.ecr_model.specs.Scripts.{fresh};
+ghost use Rattle.ecr_model.specs.registry.Scripts.{fresh};
 ghost use Rattle.ecr_cells.specs.Deeds.{ask_of, told_of, Fits, HasContents};
 ghost use Rattle.ecr_cells.specs.Desks.{Adds, AreKept, IsServed, Rests, Turns, world_of};
 ghost use Rattle.ecr_cells.specs.SiteCells.{site_of};

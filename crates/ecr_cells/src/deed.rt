@@ -1,6 +1,6 @@
 // What a turn is to do in its cell, and what came of it.
 ghost use Rattle.std.specs.Prelude.{◌≡◌};
-ghost use Rattle.ecr_model.specs.Requests.{first_ask};
+ghost use Rattle.ecr_model.specs.requests.Requests.{first_ask};
 ghost use Rattle.ecr_cells.specs.Deeds.{ask_of, beyond, changes, is_new, refusal_of, unless_known, Fits};
 
 use ecr_blob_upload::{Load, Outcome};

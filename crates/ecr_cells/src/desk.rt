@@ -1,12 +1,12 @@
 // The desk of one caller in memory.
 ghost use Rattle.std.specs.Prelude.{◌≡◌, ◌∷◌, ◌+◌, ◌<◌, ◌≤◌, ◌^◌, [], None, false, refl, Contains, IfOk, OnErr, if◌then◌else◌, vec_len, vec_capacity};
 ghost use Rattle.ecr_blob_upload.specs.Loads.{FitsCall, given};
-ghost use Rattle.ecr_model.specs.declared.reply.Reply.TheVariants as replies;
-ghost use Rattle.ecr_model.specs.declared.reply.SiteReply.TheVariants as site_replies;
-ghost use Rattle.ecr_model.specs.Contents.{AreContents};
-ghost use Rattle.ecr_model.specs.Requests as scripts;
-ghost use Rattle.ecr_model.specs.Requests.{plain, reply_told, site_told};
-ghost use Rattle.ecr_model.specs.Scripts.{fresh, ends, turn};
+ghost use Rattle.ecr_model.specs.declared.requests.reply.Reply.TheVariants as replies;
+ghost use Rattle.ecr_model.specs.declared.requests.reply.SiteReply.TheVariants as site_replies;
+ghost use Rattle.ecr_model.specs.registry.Contents.{AreContents};
+ghost use Rattle.ecr_model.specs.requests.Requests as scripts;
+ghost use Rattle.ecr_model.specs.requests.Requests.{plain, reply_told, site_told};
+ghost use Rattle.ecr_model.specs.registry.Scripts.{fresh, ends, turn};
 ghost use Rattle.ecr_desk.specs.Desks.{Ran};
 ghost use Rattle.ecr_cells.specs.Deeds.{ask_of, told_of, Fits, HasContents};
 ghost use Rattle.ecr_cells.specs.Desks.{seen_of, state_of, places_of};

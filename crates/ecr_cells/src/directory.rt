@@ -1,6 +1,6 @@
 // A turn in a site's directory.
 ghost use Rattle.std.specs.Prelude.{◌≡◌, ◌≤◌, IfOk, OnErr};
-ghost use Rattle.ecr_model.specs.Journals.{past};
+ghost use Rattle.ecr_model.specs.registry.Journals.{past};
 ghost use Rattle.ecr_cells.specs.Deeds.{ask_of, HasContents};
 ghost use Rattle.ecr_cells.specs.Turns.{IsDirectoryTurn};
 

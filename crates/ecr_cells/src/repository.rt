@@ -1,6 +1,6 @@
 // A turn in a repository.
 ghost use Rattle.std.specs.Prelude.{◌≡◌, ◌≤◌, [], IfOk, OnOk, OnErr, length};
-ghost use Rattle.ecr_model.specs.Journals.{past};
+ghost use Rattle.ecr_model.specs.registry.Journals.{past};
 ghost use Rattle.ecr_cells.specs.Deeds.{ask_of, Fits, HasContents};
 ghost use Rattle.ecr_cells.specs.SiteCells.{Puts};
 ghost use Rattle.ecr_cells.specs.Turns.{IsRepositoryTurn};

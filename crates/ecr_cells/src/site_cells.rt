@@ -1,8 +1,8 @@
 // The cells of a site.
 ghost use Rattle.std.specs.Prelude.{◌≡◌, [], None, IfOk, OnErr, length};
-ghost use Rattle.ecr_model.specs.declared.journal.CellKey.TheVariants.{Directory, Repository};
+ghost use Rattle.ecr_model.specs.declared.registry.journal.CellKey.TheVariants.{Directory, Repository};
 ghost use Rattle.ecr_cells.specs.Deeds.{ask_of, changes, told_of, Fits, HasContents};
-ghost use Rattle.ecr_model.specs.Journals.{past};
+ghost use Rattle.ecr_model.specs.registry.Journals.{past};
 ghost use Rattle.ecr_cells.specs.SiteCells.{site_of, state_of, IsNextTurn, IsQuiet, IsTurn};
 
 use crate::deed::{Deed, Done, changes};

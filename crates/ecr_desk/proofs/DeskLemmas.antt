@@ -1,19 +1,19 @@
 -- What scripts come to on a desk: one and then another, and those of calls on a repository; and runs, where the caller is
 -- alone.
 use Rattle.std.proofs.Common.{◌≡◌, ◌≤◌, ◌+◌, ℕ, Bool, true, inl, inr, List, [], ◌∷◌, ◌++◌, length, Option, refl, sym, ap, ◌∙◌, subst, arith}
-use Rattle.ecr_model.specs.declared.call.Call.{Call}
-use Rattle.ecr_model.specs.declared.journal.CellKey.{CellKey}
-use Rattle.ecr_model.specs.declared.journal.Place.{Place}
+use Rattle.ecr_model.specs.declared.requests.call.Call.{Call}
+use Rattle.ecr_model.specs.declared.registry.journal.CellKey.{CellKey}
+use Rattle.ecr_model.specs.declared.registry.journal.Place.{Place}
 use Rattle.ecr_model.specs.declared.names.RepoKey.{RepoKey}
-use Rattle.ecr_model.specs.Requests.{Decided, first_ask, first_turn, then_cell, call_script}
-use Rattle.ecr_model.specs.ScriptLaws.{RunsThen}
-use Rattle.ecr_model.specs.Scripts.{Ask, Told, Script, ends, turn, then_do, Realm, World, Journals, Parts, count_changed, run, run_to}
-use Rattle.ecr_model.specs.Soundness.{AreSound}
-use Rattle.ecr_model.specs.ViewLaws.{IsFirst, IsRun}
-use Rattle.ecr_model.specs.Views.{Views, Terms, Made, journals_of, places_of, alone_in, views_of, unsealed, Visits, Halts}
-use Rattle.ecr_model.proofs.ScriptLemmas.{run-then_do, run_to-all, run_to-first, run_to-none, run_to-then, count_changed-append, count_changed-run}
-use Rattle.ecr_model.proofs.StillViewLemmas.{runs_visit, visits_run, halts_run_to}
-use Rattle.ecr_model.proofs.ViewLemmas.{visits_then, halts_here, halts_first, halts_then, visits_halt, places_of-append, places_of-unsealed}
+use Rattle.ecr_model.specs.requests.Requests.{Decided, first_ask, first_turn, then_cell, call_script}
+use Rattle.ecr_model.specs.laws.ScriptLaws.{RunsThen}
+use Rattle.ecr_model.specs.registry.Scripts.{Ask, Told, Script, ends, turn, then_do, Realm, World, Journals, Parts, count_changed, run, run_to}
+use Rattle.ecr_model.specs.registry.Soundness.{AreSound}
+use Rattle.ecr_model.specs.laws.ViewLaws.{IsFirst, IsRun}
+use Rattle.ecr_model.specs.registry.Views.{Views, Terms, Made, journals_of, places_of, alone_in, views_of, unsealed, Visits, Halts}
+use Rattle.ecr_model.proofs.lemmas.registry.ScriptLemmas.{run-then_do, run_to-all, run_to-first, run_to-none, run_to-then, count_changed-append, count_changed-run}
+use Rattle.ecr_model.proofs.lemmas.registry.StillViewLemmas.{runs_visit, visits_run, halts_run_to}
+use Rattle.ecr_model.proofs.lemmas.registry.ViewLemmas.{visits_then, halts_here, halts_first, halts_then, visits_halt, places_of-append, places_of-unsealed}
 use Rattle.ecr_desk.specs.Desks.{DeskState, StillState, terms_of, seen_by, still_of, IsStill, run_on, Ran, Stopped, StoppedWithin, Runs, RunsTo}
 
 -- ---- a caller that is alone

@@ -1,8 +1,8 @@
 -- What is seen of a desk, and what a call on it leaves. Of this registry: docs/DECISIONS.md, "Scripts" and "Views".
 use Rattle.std.specs.Prelude.{◌≡◌, ◌≤◌, ◌+◌, ℕ, Bool, true, List, ◌++◌, length}
-use Rattle.ecr_model.specs.declared.journal.Place.{Place}
-use Rattle.ecr_model.specs.Scripts.{Realm, Parts, World, Script, Run, count_changed, run, run_to}
-use Rattle.ecr_model.specs.Views.{Views, Terms, Made, journals_of, places_of, views_of, Visits, Halts}
+use Rattle.ecr_model.specs.declared.registry.journal.Place.{Place}
+use Rattle.ecr_model.specs.registry.Scripts.{Realm, Parts, World, Script, Run, count_changed, run, run_to}
+use Rattle.ecr_model.specs.registry.Views.{Views, Terms, Made, journals_of, places_of, views_of, Visits, Halts}
 
 -- a desk as its caller sees it: the sites and limits, whether the caller is alone, its views of the cells, the parts of
 -- uploads in progress, which only a caller that is alone sees, and how many entries the caller has added

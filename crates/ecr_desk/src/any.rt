@@ -1,10 +1,10 @@
 // The desk as a session uses it, whether its caller is alone or one among many.
 ghost use Rattle.std.specs.Prelude.{◌≡◌, ◌∷◌, [], true, Contains, IfOk, OnErr};
 ghost use Rattle.ecr_blob_upload.specs.Loads.{FitsCall, given};
-ghost use Rattle.ecr_model.specs.Contents.{AreContents};
-ghost use Rattle.ecr_model.specs.Requests.{call_script, site_script};
-ghost use Rattle.ecr_model.specs.Soundness.{AreSound};
-ghost use Rattle.ecr_model.specs.Views.{journals_of};
+ghost use Rattle.ecr_model.specs.registry.Contents.{AreContents};
+ghost use Rattle.ecr_model.specs.requests.Requests.{call_script, site_script};
+ghost use Rattle.ecr_model.specs.registry.Soundness.{AreSound};
+ghost use Rattle.ecr_model.specs.registry.Views.{journals_of};
 ghost use Rattle.ecr_desk.specs.Desks.{DeskState, Ran, StoppedWithin};
 
 use crate::{Answer, SiteAnswer};

@@ -1,8 +1,8 @@
 -- The text of a list of digests, a digest at a time.
 use Rattle.std.proofs.Common.{◌≡◌, ◌∙◌, ℕ, List, [], ◌∷◌, ◌++◌, codes, sym, ap, append-nil, append_assoc}
 use Rattle.ecr_model.specs.declared.names.Digest.{Digest}
-use Rattle.ecr_model.specs.Digests.{digest_text}
-use Rattle.ecr_model.specs.Refusals.{digests_text}
+use Rattle.ecr_model.specs.names.Digests.{digest_text}
+use Rattle.ecr_model.specs.requests.Refusals.{digests_text}
 
 -- each digest's text with a `,` before it
 abbrev pub more_digests : List Digest → List ℕ

@@ -4,9 +4,9 @@ use Rattle.serde_json.specs.Data.{Members, member, number, unsigned, depth, memb
 use Rattle.serde_json.specs.Read.{max_depth}
 use Rattle.serde_json.specs.Written.{has_float, members_have_float}
 use Rattle.ecr_model.specs.declared.names.RepoKey.{RepoKey}
-use Rattle.ecr_model.specs.declared.refusal.Refusal.{Refusal}
-use Rattle.ecr_model.specs.declared.refusal.Refusal.TheVariants.{InvalidLayerPart}
-use Rattle.ecr_model.specs.Refusals.{with_last_byte, part_data, refusal_data}
+use Rattle.ecr_model.specs.declared.requests.refusal.Refusal.{Refusal}
+use Rattle.ecr_model.specs.declared.requests.refusal.Refusal.TheVariants.{InvalidLayerPart}
+use Rattle.ecr_model.specs.requests.Refusals.{with_last_byte, part_data, refusal_data}
 
 -- ---- the member that isn't always there
 

@@ -2,7 +2,7 @@
 ghost use Rattle.std.specs.Prelude.{◌≡◌, ℕ, IfOk, Some, option_map};
 ghost use Rattle.serde_json.specs.Read.{read};
 ghost use Rattle.serde_json.specs.View.{view};
-ghost use Rattle.ecr_model.specs.Refusals.{part_data, plain_data, refusal_body, refusal_data};
+ghost use Rattle.ecr_model.specs.requests.Refusals.{part_data, plain_data, refusal_body, refusal_data};
 
 use crate::message::{type_text, write_message};
 use ecr_base::{utf8_or_empty, write_upload_id};
@@ -15,7 +15,7 @@ use std::alloc::Global;
 ///
 /// It has `__type` and `message`. That of a refused part names the repository and the upload too, where both are given, and
 /// the last byte that was received, where one was (Amazon ECR API Reference, `UploadLayerPart`). Bytes count from 0.
-#[tactic(auto, unfolding(ecr_model::specs::Refusals::refusal_body))]
+#[tactic(auto, unfolding(ecr_model::specs::requests::Refusals::refusal_body))]
 pub fn refusal_body(
     alloc: Global,
     refusal: &Refusal,
@@ -30,7 +30,7 @@ pub fn refusal_body(
 }
 
 /// The refusal as JSON.
-#[tactic(auto, unfolding(ecr_model::specs::Refusals::refusal_data))]
+#[tactic(auto, unfolding(ecr_model::specs::requests::Refusals::refusal_data))]
 fn refusal_data(
     alloc: Global,
     refusal: &Refusal,

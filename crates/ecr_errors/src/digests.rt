@@ -1,7 +1,7 @@
 // Lists of digests as text (of this registry).
 ghost use Rattle.std.specs.Prelude.{◌≡◌, ◌++◌, ◌∷◌, IfOk, OnOk, codes, string_bytes};
-ghost use Rattle.ecr_model.specs.Digests.{digest_text};
-ghost use Rattle.ecr_model.specs.Refusals.{digests_text};
+ghost use Rattle.ecr_model.specs.names.Digests.{digest_text};
+ghost use Rattle.ecr_model.specs.requests.Refusals.{digests_text};
 
 use ecr_base::write_digest;
 use ecr_model::{Digest, Mem};

@@ -1,6 +1,6 @@
 // The reply where there is no memory (RFC 9110, section 15.6.1).
 ghost use Rattle.std.specs.Prelude.{◌≡◌, false, true};
-ghost use Rattle.ecr_model.specs.Replies.{failed_reply};
+ghost use Rattle.ecr_model.specs.http.Replies.{failed_reply};
 
 /// The whole reply where there was no memory for another. It says `close` where the session closes after it, and has no
 /// body where it answers HEAD (RFC 9110, section 9.3.2).

@@ -1,7 +1,7 @@
 // Types and messages of refusals (Amazon ECR API Reference, "Common Errors" and the actions' errors). The messages are of
 // this registry.
 ghost use Rattle.std.specs.Prelude.{◌≡◌, IfOk, string_bytes};
-ghost use Rattle.ecr_model.specs.Refusals.{message_text, type_text};
+ghost use Rattle.ecr_model.specs.requests.Refusals.{message_text, type_text};
 
 use crate::digests::write_digests;
 use crate::parameter::{fault_text, write_parameter};
@@ -11,7 +11,7 @@ use ecr_model::{Mem, Refusal};
 use std::alloc::Global;
 
 /// The refusal's `__type`.
-#[tactic(auto, unfolding(ecr_model::specs::Refusals::type_text))]
+#[tactic(auto, unfolding(ecr_model::specs::requests::Refusals::type_text))]
 pub(crate) fn type_text(refusal: &Refusal) -> &'static str
     ensures { result.now ≡ type_text refusal.now }
 {
@@ -43,7 +43,7 @@ pub(crate) fn type_text(refusal: &Refusal) -> &'static str
 }
 
 /// The refusal's message.
-#[tactic(auto, unfolding(ecr_model::specs::Refusals::message_text))]
+#[tactic(auto, unfolding(ecr_model::specs::requests::Refusals::message_text))]
 pub(crate) fn write_message(alloc: Global, refusal: &Refusal) -> Result<String, Mem>
     ensures { IfOk result (λ s. string_bytes s ≡ message_text refusal.now) }
 {

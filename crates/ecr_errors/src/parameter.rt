@@ -1,13 +1,13 @@
 // The members of requests, and causes, by their texts (of this registry).
 ghost use Rattle.std.specs.Prelude.{◌≡◌, IfOk, string_bytes};
-ghost use Rattle.ecr_model.specs.Refusals.{fault_text, parameter_text};
+ghost use Rattle.ecr_model.specs.requests.Refusals.{fault_text, parameter_text};
 
 use crate::text::write_numbers;
 use ecr_model::{ConfigurationFault, Mem, Parameter};
 use std::alloc::Global;
 
 /// The name of a member, or the first cause of a manifest or a policy with its entry or its rule.
-#[tactic(auto, unfolding(ecr_model::specs::Refusals::parameter_text))]
+#[tactic(auto, unfolding(ecr_model::specs::requests::Refusals::parameter_text))]
 pub(crate) fn write_parameter(alloc: Global, which: Parameter) -> Result<String, Mem>
     ensures { IfOk result (λ s. string_bytes s ≡ parameter_text which) }
 {

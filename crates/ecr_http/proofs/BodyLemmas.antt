@@ -5,9 +5,9 @@ use Rattle.std.proofs.Math.Seq.{take-append_seam, drop-append_seam}
 use Rattle.std.proofs.KnownBytes.{Consumes-nil, Consumes-trans, Consumes-kept}
 use Rattle.std.specs.Io.KnownBytes.{Consumes, Keeps}
 use Rattle.ecr_model.specs.declared.http.Framing.TheVariants.{Sized}
-use Rattle.ecr_model.specs.Sessions.{max_read}
-use Rattle.ecr_model.specs.Stream.{IsBody, complete}
-use Rattle.ecr_model.proofs.FrontLemmas.{IsBody-sized, IsBody-sized_open}
+use Rattle.ecr_model.specs.sessions.Sessions.{max_read}
+use Rattle.ecr_model.specs.http.Stream.{IsBody, complete}
+use Rattle.ecr_model.proofs.lemmas.http.FrontLemmas.{IsBody-sized, IsBody-sized_open}
 use Rattle.ecr_http.specs.Bodies.{IsGot, Gathers, IsLess, IsPartial, Bodies}
 use Rattle.ecr_http.specs.Takings.{lengthened, Gains, IsStop}
 use Rattle.ecr_http.specs.declared.body.Taken.TheVariants as takens

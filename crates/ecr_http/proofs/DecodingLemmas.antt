@@ -7,13 +7,13 @@ use Rattle.httparse.specs.Grammar.{ChunkLine, ReadsChunkLine, print_chunk_line}
 use Rattle.httparse.specs.Spans.{IsChunkLineAt}
 use Rattle.httparse.proofs.ChunkLemmas.{chunk_line_unique}
 use Rattle.ecr_model.specs.declared.http.Framing.TheVariants.{Chunked}
-use Rattle.ecr_model.specs.Framing.{ends_empty, IsEnd, HasNoEnd, EndsAt}
-use Rattle.ecr_model.specs.Fronts.{Lack, bad, too_long, open_, lacks, complete}
-use Rattle.ecr_model.specs.Chunks.{max_chunk_line, max_trailers, line_end, Says, Part, chunk, lacking, if_crlf, Progress, begun, with_more, past_chunk, Comes, Chunks, IsPart, IsChunked}
-use Rattle.ecr_model.specs.Sessions.{max_read}
-use Rattle.ecr_model.proofs.FramingLemmas.{HasNoEnd-append}
-use Rattle.ecr_model.proofs.ChunkLemmas.{line_end-is, line_end-append, Says-append, Chunks-append, Chunks-more, Chunks-length}
-use Rattle.ecr_model.proofs.PartLemmas.{IsPart-open_line, IsPart-long_line, IsPart-no_size, IsPart-over, IsPart-data, IsPart-open_data, IsPart-last, IsPart-open_trailers, IsPart-long_trailers, Chunks-ahead, IsChunked-lacks, IsChunked-whole}
+use Rattle.ecr_model.specs.http.Framing.{ends_empty, IsEnd, HasNoEnd, EndsAt}
+use Rattle.ecr_model.specs.http.Fronts.{Lack, bad, too_long, open_, lacks, complete}
+use Rattle.ecr_model.specs.http.Chunks.{max_chunk_line, max_trailers, line_end, Says, Part, chunk, lacking, if_crlf, Progress, begun, with_more, past_chunk, Comes, Chunks, IsPart, IsChunked}
+use Rattle.ecr_model.specs.sessions.Sessions.{max_read}
+use Rattle.ecr_model.proofs.lemmas.http.FramingLemmas.{HasNoEnd-append}
+use Rattle.ecr_model.proofs.lemmas.http.ChunkLemmas.{line_end-is, line_end-append, Says-append, Chunks-append, Chunks-more, Chunks-length}
+use Rattle.ecr_model.proofs.lemmas.http.PartLemmas.{IsPart-open_line, IsPart-long_line, IsPart-no_size, IsPart-over, IsPart-data, IsPart-open_data, IsPart-last, IsPart-open_trailers, IsPart-long_trailers, Chunks-ahead, IsChunked-lacks, IsChunked-whole}
 use Rattle.ecr_http.specs.Takings.{Gains, IsStop, left_to_read}
 use Rattle.ecr_http.specs.Bodies.{IsPartial}
 use Rattle.ecr_http.specs.Decoding.{IsClosed, HasLine, IsInData, IsInTrailers, StandsAt, Decodes, Awaits, Decoded, rank, left_to_do}

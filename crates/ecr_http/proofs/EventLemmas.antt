@@ -7,16 +7,16 @@ use Rattle.std.proofs.KnownBytes.{Appends-nil, Consumes-trans, Consumes-nil}
 use Rattle.std.specs.Io.KnownBytes.{Appends}
 use Rattle.ecr_model.specs.declared.http.Framing.{Framing}
 use Rattle.ecr_model.specs.declared.http.Framing.TheVariants.{Sized, Chunked}
-use Rattle.ecr_model.specs.Fields.{first_says}
+use Rattle.ecr_model.specs.http.Fields.{first_says}
 use Rattle.ecr_model.specs.declared.http.Head.{Head}
 use Rattle.ecr_model.specs.declared.http.Request.{Request}
-use Rattle.ecr_model.specs.Framing.{max_head, max_body, IsEnd, Parses, framing_of, is_sent, waits}
-use Rattle.ecr_model.specs.Replies.{interim}
-use Rattle.ecr_model.specs.Sessions.{max_read, is_waiting}
-use Rattle.ecr_model.specs.Stream.{blank_length, Lack, bad, too_long, open_, BodyFront, complete, lacks, IsBody, with_body, Front, whole, short, IsFront, Point, grown, past_blank, Meets, AwaitsBody, past, closes, Tail, Lacks, tail_of, ended, truncated, bad_at, long_at, more, request_of}
-use Rattle.ecr_model.proofs.FramingLemmas.{IsEnd-append, IsEnd-positive}
-use Rattle.ecr_model.proofs.FrontLemmas.{Parses-append, IsBody-length, IsBody-sized_long, IsFront-nil, IsFront-long, IsFront-no_grammar, IsFront-body, IsFront-unframed, IsFront-whole_length}
-use Rattle.ecr_model.proofs.StreamLemmas.{blank_length-le, blank_length-drop, blank_length-append}
+use Rattle.ecr_model.specs.http.Framing.{max_head, max_body, IsEnd, Parses, framing_of, is_sent, waits}
+use Rattle.ecr_model.specs.http.Replies.{interim}
+use Rattle.ecr_model.specs.sessions.Sessions.{max_read, is_waiting}
+use Rattle.ecr_model.specs.http.Stream.{blank_length, Lack, bad, too_long, open_, BodyFront, complete, lacks, IsBody, with_body, Front, whole, short, IsFront, Point, grown, past_blank, Meets, AwaitsBody, past, closes, Tail, Lacks, tail_of, ended, truncated, bad_at, long_at, more, request_of}
+use Rattle.ecr_model.proofs.lemmas.http.FramingLemmas.{IsEnd-append, IsEnd-positive}
+use Rattle.ecr_model.proofs.lemmas.http.FrontLemmas.{Parses-append, IsBody-length, IsBody-sized_long, IsFront-nil, IsFront-long, IsFront-no_grammar, IsFront-body, IsFront-unframed, IsFront-whole_length}
+use Rattle.ecr_model.proofs.lemmas.http.StreamLemmas.{blank_length-le, blank_length-drop, blank_length-append}
 use Rattle.ecr_http.specs.Bodies.{FitsLimit, IsPartial, Bodies}
 use Rattle.ecr_http.specs.Events.{closes_after, point_of, Fronts, HasHead, Behind}
 use Rattle.ecr_http.specs.Leads.{IsReady, IsRead, Leads}

@@ -8,9 +8,9 @@ use Rattle.httparse.specs.Grammar.{RequestHead, ReadsRequest, print_request, pri
 use Rattle.httparse.specs.declared.spans.HeaderSpan.{HeaderSpan}
 use Rattle.httparse.specs.declared.spans.RequestSpans.{RequestSpans}
 use Rattle.httparse.specs.Spans.{header_bytes, name_and_value, IsRequestAt}
-use Rattle.ecr_model.specs.FieldLines.{Field, field_at}
-use Rattle.ecr_model.specs.Fields.{field_of, head_of}
-use Rattle.ecr_model.specs.Framing.{Parses}
+use Rattle.ecr_model.specs.http.FieldLines.{Field, field_at}
+use Rattle.ecr_model.specs.http.Fields.{field_of, head_of}
+use Rattle.ecr_model.specs.http.Framing.{Parses}
 use Rattle.ecr_http.specs.Lines.{line_count}
 use Rattle.ecr_http.specs.Spans.{head_at}
 

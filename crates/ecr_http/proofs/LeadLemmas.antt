@@ -4,11 +4,11 @@ use Rattle.std.proofs.lemmas.List.{at_drop_more, drop-append-le}
 use Rattle.std.proofs.Math.Seq.{drop-nil}
 use Rattle.std.proofs.KnownBytes.{Consumes-nil, Consumes-trans, Consumes-kept}
 use Rattle.std.specs.Io.KnownBytes.{Consumes, Keeps}
-use Rattle.ecr_model.specs.Framing.{ends_empty, HasNoEnd}
-use Rattle.ecr_model.specs.Sessions.{max_read}
-use Rattle.ecr_model.specs.Stream.{is_blank, blank_length}
-use Rattle.ecr_model.proofs.FramingLemmas.{HasNoEnd-append}
-use Rattle.ecr_model.proofs.StreamLemmas.{blank_length-le, blank_length-drop}
+use Rattle.ecr_model.specs.http.Framing.{ends_empty, HasNoEnd}
+use Rattle.ecr_model.specs.sessions.Sessions.{max_read}
+use Rattle.ecr_model.specs.http.Stream.{is_blank, blank_length}
+use Rattle.ecr_model.proofs.lemmas.http.FramingLemmas.{HasNoEnd-append}
+use Rattle.ecr_model.proofs.lemmas.http.StreamLemmas.{blank_length-le, blank_length-drop}
 use Rattle.ecr_http.specs.Leads.{IsReady, IsRead, IsShort, IsOpen, passed}
 use Rattle.ecr_http.specs.Takings.{lengthened, Gains}
 use Rattle.ecr_http.specs.declared.intake.Intake.{Intake}

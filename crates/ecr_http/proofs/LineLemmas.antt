@@ -5,7 +5,7 @@ use Rattle.std.proofs.lemmas.List.{get_or-take, get_or-drop, length-take}
 use Rattle.std.proofs.Math.Nat.{eq-or-lt_of_le}
 use Rattle.std.proofs.lemmas.Bool.{cases_lt}
 use Rattle.memchr.specs.Find.{Nowhere, Passes, is_byte}
-use Rattle.ecr_model.specs.Framing.{ends_empty, HasNoEnd}
+use Rattle.ecr_model.specs.http.Framing.{ends_empty, HasNoEnd}
 use Rattle.ecr_http.specs.Lines.{HasNoLine}
 
 pub length-slice_range : (bytes : List ℕ) (from to : ℕ) → to ≤ length bytes → length (slice_range bytes from to) ≡ to - from

@@ -3,8 +3,8 @@ use Rattle.std.specs.Prelude.{◌≡◌, ℕ, ◌+◌, ◌<◌, ◌≤◌, List,
 use Rattle.std.specs.Io.KnownBytes.{Consumes}
 use Rattle.ecr_model.specs.declared.http.Framing.{Framing}
 use Rattle.ecr_model.specs.declared.http.Framing.TheVariants.{Sized, Chunked}
-use Rattle.ecr_model.specs.Sessions.{max_read}
-use Rattle.ecr_model.specs.Stream.{bad, too_long, open_, complete, lacks, IsBody}
+use Rattle.ecr_model.specs.sessions.Sessions.{max_read}
+use Rattle.ecr_model.specs.http.Stream.{bad, too_long, open_, complete, lacks, IsBody}
 use Rattle.ecr_http.specs.Takings.{IsStop}
 use Rattle.ecr_http.specs.declared.intake.Intake.{Intake}
 use Rattle.ecr_http.specs.declared.intake.Stop.{Stop}

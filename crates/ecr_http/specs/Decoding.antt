@@ -1,9 +1,9 @@
 -- How far a chunked body was decoded, and what was found (RFC 9112, section 7.1). Places and sizes are in bytes.
 use Rattle.std.specs.Prelude.{◌≡◌, ℕ, suc, ◌+◌, ◌*◌, ◌<◌, ◌≤◌, List, ◌++◌, length, take, drop, Option, Some, ⊤}
 use Rattle.ecr_model.specs.declared.http.Framing.TheVariants.{Chunked}
-use Rattle.ecr_model.specs.Framing.{HasNoEnd}
-use Rattle.ecr_model.specs.Fronts.{bad, too_long, open_, complete, lacks}
-use Rattle.ecr_model.specs.Chunks.{line_end, Says, Part, lacking, if_crlf, Progress, begun, Chunks, IsChunked}
+use Rattle.ecr_model.specs.http.Framing.{HasNoEnd}
+use Rattle.ecr_model.specs.http.Fronts.{bad, too_long, open_, complete, lacks}
+use Rattle.ecr_model.specs.http.Chunks.{line_end, Says, Part, lacking, if_crlf, Progress, begun, Chunks, IsChunked}
 use Rattle.ecr_http.specs.Takings.{IsStop, left_to_read}
 use Rattle.ecr_http.specs.Bodies.{IsGot, IsPartial}
 use Rattle.ecr_http.specs.declared.intake.Intake.{Intake}

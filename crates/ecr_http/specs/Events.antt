@@ -3,9 +3,9 @@ use Rattle.std.specs.Prelude.{◌≡◌, ℕ, ◌+◌, ◌<◌, ◌≤◌, Bool,
 use Rattle.std.specs.Io.KnownBytes.{Consumes, IsAtEnd}
 use Rattle.ecr_model.specs.declared.http.Head.{Head}
 use Rattle.ecr_model.specs.declared.http.Framing.{Framing}
-use Rattle.ecr_model.specs.Framing.{max_head, max_body, IsEnd, Parses, framing_of}
-use Rattle.ecr_model.specs.Sessions.{max_read, is_waiting}
-use Rattle.ecr_model.specs.Stream.{Point, bad, too_long, open_, whole, short, IsFront, closes}
+use Rattle.ecr_model.specs.http.Framing.{max_head, max_body, IsEnd, Parses, framing_of}
+use Rattle.ecr_model.specs.sessions.Sessions.{max_read, is_waiting}
+use Rattle.ecr_model.specs.http.Stream.{Point, bad, too_long, open_, whole, short, IsFront, closes}
 use Rattle.ecr_http.specs.Leads.{IsReady}
 use Rattle.ecr_http.specs.declared.intake.Intake.{Intake}
 use Rattle.ecr_http.specs.declared.events.Event.{Event}

@@ -1,9 +1,9 @@
 -- How far a head was read, and what was found. Places and sizes are in bytes.
 use Rattle.std.specs.Prelude.{◌≡◌, ℕ, ◌+◌, ◌<◌, ◌≤◌, List, ◌++◌, length, take, drop, min, Option, None, Some, ⊤}
 use Rattle.std.specs.Io.KnownBytes.{Consumes}
-use Rattle.ecr_model.specs.Framing.{max_head, IsEnd, HasNoEnd, Parses}
-use Rattle.ecr_model.specs.Sessions.{max_read}
-use Rattle.ecr_model.specs.Stream.{blank_length}
+use Rattle.ecr_model.specs.http.Framing.{max_head, IsEnd, HasNoEnd, Parses}
+use Rattle.ecr_model.specs.sessions.Sessions.{max_read}
+use Rattle.ecr_model.specs.http.Stream.{blank_length}
 use Rattle.ecr_http.specs.Takings.{IsStop}
 use Rattle.ecr_http.specs.declared.intake.Intake.{Intake}
 use Rattle.ecr_http.specs.declared.intake.Stop.{Stop}

@@ -2,9 +2,9 @@
 -- of all bytes of its source; where it is closed, it isn't used again.
 use Rattle.std.specs.Prelude.{◌≡◌, ℕ, ◌+◌, ◌<◌, ◌≤◌, ◌⊎◌, Bool, true, false, List, [], length, Option, ⊤}
 use Rattle.std.specs.Io.KnownBytes.{Consumes, Appends, IsAtEnd}
-use Rattle.ecr_model.specs.Replies.{continue_reply, interim}
-use Rattle.ecr_model.specs.Sessions.{max_read, is_waiting}
-use Rattle.ecr_model.specs.Stream.{Point, grown, Meets, AwaitsBody, past, whole, Lacks, Ending, ended, truncated, bad_at, long_at, more}
+use Rattle.ecr_model.specs.http.Replies.{continue_reply, interim}
+use Rattle.ecr_model.specs.sessions.Sessions.{max_read, is_waiting}
+use Rattle.ecr_model.specs.http.Stream.{Point, grown, Meets, AwaitsBody, past, whole, Lacks, Ending, ended, truncated, bad_at, long_at, more}
 use Rattle.ecr_http.specs.Sends.{Sends}
 use Rattle.ecr_http.specs.declared.events.Event.{Event}
 use Rattle.ecr_http.specs.declared.events.Event.TheVariants as events

@@ -3,7 +3,7 @@ use Rattle.std.specs.Prelude.{ℕ, List, map}
 use Rattle.httparse.specs.declared.spans.HeaderSpan.{HeaderSpan}
 use Rattle.httparse.specs.declared.spans.RequestSpans.{RequestSpans}
 use Rattle.httparse.specs.Spans.{span_bytes}
-use Rattle.ecr_model.specs.FieldLines.{field_at}
+use Rattle.ecr_model.specs.http.FieldLines.{field_at}
 use Rattle.ecr_model.specs.declared.http.Head.{Head}
 
 -- the head at those spans

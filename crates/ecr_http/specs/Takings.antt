@@ -1,7 +1,7 @@
 -- What one read does to what a reader keeps. Sizes are in bytes.
 use Rattle.std.specs.Prelude.{◌≡◌, ℕ, ◌+◌, ◌-◌, ◌<◌, ◌≤◌, List, ◌++◌, length, Option, None, Some, ⊤}
 use Rattle.std.specs.Io.KnownBytes.{Consumes, Keeps, IsAtEnd}
-use Rattle.ecr_model.specs.Sessions.{max_read}
+use Rattle.ecr_model.specs.sessions.Sessions.{max_read}
 use Rattle.ecr_http.specs.declared.intake.Intake.{Intake}
 use Rattle.ecr_http.specs.declared.intake.Stop.{Stop}
 use Rattle.ecr_http.specs.declared.intake.Stop.TheVariants as stops

@@ -32,7 +32,7 @@ pub enum Gathered {
 
 impl Intake {
     ghost use Rattle.ecr_model.specs.declared.http.Framing.TheVariants as framing;
-    ghost use Rattle.ecr_model.specs.Sessions.{max_read};
+    ghost use Rattle.ecr_model.specs.sessions.Sessions.{max_read};
     ghost use Rattle.ecr_http.specs.Bodies.{Bodies, FitsLimit, Gathers, GathersOn};
     ghost use Rattle.ecr_http.specs.Takings.{left_to_read};
     ghost use Rattle.ecr_http.specs.declared.body.Taken.TheVariants as taken;

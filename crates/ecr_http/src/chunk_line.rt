@@ -1,6 +1,6 @@
 // The line of a chunk, and the end of its data (RFC 9112, section 7.1). Places and sizes are in bytes.
 ghost use Rattle.std.specs.Prelude.{◌≡◌};
-ghost use Rattle.ecr_model.specs.Chunks.{line_size, line_end, Says};
+ghost use Rattle.ecr_model.specs.http.Chunks.{line_size, line_end, Says};
 ghost use Rattle.ecr_http.specs.Decoding.{IsClosed};
 
 use httparse::{Status, parse_chunk_size};
@@ -20,7 +20,7 @@ pub enum Closing {
 }
 
 /// The place of the first LF, if a chunk's line that ends there is within the limit.
-#[tactic(auto, unfolding(ecr_model::specs::Chunks::max_chunk_line))]
+#[tactic(auto, unfolding(ecr_model::specs::http::Chunks::max_chunk_line))]
 pub(crate) fn line_end(bytes: &[u8]) -> Option<usize>
     ensures { result ≡ line_end bytes.now }
 {

@@ -39,9 +39,9 @@ pub enum Next {
 
 impl Intake {
     ghost use Rattle.ecr_model.specs.declared.http.Framing.TheVariants as framing;
-    ghost use Rattle.ecr_model.specs.Framing.{EndsAt};
-    ghost use Rattle.ecr_model.specs.Chunks.{line_end, max_trailers};
-    ghost use Rattle.ecr_model.specs.Sessions.{max_read};
+    ghost use Rattle.ecr_model.specs.http.Framing.{EndsAt};
+    ghost use Rattle.ecr_model.specs.http.Chunks.{line_end, max_trailers};
+    ghost use Rattle.ecr_model.specs.sessions.Sessions.{max_read};
     ghost use Rattle.ecr_http.specs.Bodies.{Bodies};
     ghost use Rattle.ecr_http.specs.Decoding.{Decodes, Awaits, DecodesOn, IsScanned, IsNearer, left_to_do};
     ghost use Rattle.ecr_http.specs.declared.body.Taken.TheVariants as taken;
@@ -133,7 +133,7 @@ impl Intake {
     }
 
     // Reads more of a chunk's line, unless there is more already than a line may have.
-    #[tactic(auto, unfolding(ecr_model::specs::Chunks::max_chunk_line))]
+    #[tactic(auto, unfolding(ecr_model::specs::http::Chunks::max_chunk_line))]
     fn lengthen_line<S: Source>(&mut self, source: &mut S) -> Next
         requires { line_end self.old.buffer ≡ None }
         ensures goes_on { (limit : ℕ) (before : Option (List ℕ)) (old : Intake) (body : List ℕ)
@@ -228,7 +228,7 @@ impl Intake {
     }
 
     // The trailer section comes next, in whose first `scanned` bytes no empty line ends.
-    #[tactic(auto, unfolding(ecr_model::specs::Chunks::max_trailers))]
+    #[tactic(auto, unfolding(ecr_model::specs::http::Chunks::max_trailers))]
     fn decode_trailers<S: Source>(&mut self, source: &mut S, scanned: usize) -> Next
         requires { IsScanned self.old.buffer (stage.Trailers scanned) }
         ensures goes_on { (limit : ℕ) (before : Option (List ℕ)) (old : Intake) (body : List ℕ)
@@ -248,7 +248,7 @@ impl Intake {
     }
 
     // Reads more of the trailer section, unless there is more already than it may have.
-    #[tactic(auto, unfolding(ecr_model::specs::Chunks::max_trailers))]
+    #[tactic(auto, unfolding(ecr_model::specs::http::Chunks::max_trailers))]
     fn lengthen_trailers<S: Source>(&mut self, source: &mut S) -> Next
         requires { EndsAt (1 + max_trailers) self.old.buffer None }
         ensures goes_on { (limit scanned : ℕ) (before : Option (List ℕ)) (old : Intake) (body : List ℕ)

@@ -1,7 +1,7 @@
 // Replies without a body (RFC 9112, section 6.3).
 ghost use Rattle.std.specs.Prelude.{◌≡◌, IfOk};
 ghost use Rattle.ecr_http.specs.Replies.{reply_bytes};
-ghost use Rattle.ecr_model.specs.Replies.{connection_line, empty_reply};
+ghost use Rattle.ecr_model.specs.http.Replies.{connection_line, empty_reply};
 
 use crate::reply::HttpReply;
 use ecr_model::Mem;
@@ -23,7 +23,7 @@ pub fn write_empty(alloc: Global, close: bool, status: &str) -> Result<HttpReply
 }
 
 // The bytes of such a reply.
-#[tactic(auto, unfolding(ecr_model::specs::Replies::empty_reply))]
+#[tactic(auto, unfolding(ecr_model::specs::http::Replies::empty_reply))]
 fn write_head(alloc: Global, close: bool, status: &str) -> Result<Vec<u8>, Mem>
     ensures { IfOk result (λ v. v.items ≡ empty_reply close status.now) }
 {

@@ -2,7 +2,7 @@
 ghost use Rattle.std.specs.Prelude.{◌≡◌, option_map, take, drop};
 ghost use Rattle.std.specs.List.{list_all, before_first};
 ghost use Rattle.httparse.specs.Grammar.{is_ows, skip_ows};
-ghost use Rattle.ecr_model.specs.Fields.{has_name, count_of, first_value, each_is, first_says, is_comma, begins_close, has_later_close, has_close};
+ghost use Rattle.ecr_model.specs.http.Fields.{has_name, count_of, first_value, each_is, first_says, is_comma, begins_close, has_later_close, has_close};
 
 use ecr_model::Fields;
 
@@ -17,7 +17,7 @@ pub(crate) fn first_says(fields: &Fields, name: &[u8], text: &[u8]) -> bool
 }
 
 /// Whether a word of the list is `close`.
-#[tactic(auto, unfolding(ecr_model::specs::Fields::has_close))]
+#[tactic(auto, unfolding(ecr_model::specs::http::Fields::has_close))]
 pub(crate) fn has_close(text: &[u8]) -> bool
     ensures { result ≡ has_close text.now }
 {
@@ -39,7 +39,7 @@ fn has_later_close(text: &[u8]) -> bool
 }
 
 /// Whether the word that begins here is `close`, letter case and the white space around it aside.
-#[tactic(auto, unfolding(ecr_model::specs::Fields::begins_close))]
+#[tactic(auto, unfolding(ecr_model::specs::http::Fields::begins_close))]
 fn begins_close(text: &[u8]) -> bool
     ensures { result ≡ begins_close text.now }
 {

@@ -5,9 +5,9 @@ ghost use Rattle.std.specs.List.{list_all};
 ghost use Rattle.std.specs.Char.{is_ascii_digit};
 ghost use Rattle.std.specs.Str.Parse.{digits_value};
 ghost use Rattle.std.specs.Option.{option_map_or};
-ghost use Rattle.ecr_model.specs.Fields.{has_close};
-ghost use Rattle.ecr_model.specs.Framing.{path_of, max_body, is_length, stated_by, is_chunked, delimited_by, framing_of, has_its_host, is_sent, waits};
-ghost use Rattle.ecr_model.specs.Stream.{closes};
+ghost use Rattle.ecr_model.specs.http.Fields.{has_close};
+ghost use Rattle.ecr_model.specs.http.Framing.{path_of, max_body, is_length, stated_by, is_chunked, delimited_by, framing_of, has_its_host, is_sent, waits};
+ghost use Rattle.ecr_model.specs.http.Stream.{closes};
 ghost use Rattle.ecr_http.specs.Bodies.{FitsLimit};
 
 use crate::fields::{first_says, has_close};
@@ -22,7 +22,7 @@ const MAX_BODY: u64 = 33_554_432;
 const MAX_DIGITS: usize = 18;
 
 /// How the body is delimited, or `None` where the head says it badly.
-#[tactic(auto, unfolding(ecr_model::specs::Framing::framing_of))]
+#[tactic(auto, unfolding(ecr_model::specs::http::Framing::framing_of))]
 pub(crate) fn framing_of(head: &Head) -> Option<Framing>
     ensures { result ≡ framing_of head.now }
 {
@@ -65,7 +65,7 @@ fn has_its_host(head: &Head) -> bool
 }
 
 /// Whether the client waits for a 100 before it sends the body (RFC 9110, section 10.1.1).
-#[tactic(auto, unfolding(ecr_model::specs::Framing::waits))]
+#[tactic(auto, unfolding(ecr_model::specs::http::Framing::waits))]
 pub(crate) fn waits(head: &Head) -> bool
     ensures { result ≡ waits head.now }
 {
@@ -103,7 +103,7 @@ pub(crate) fn fits_limit(framing: Framing, limit: u64) -> bool
 }
 
 /// Whether the session closes after the reply to the request (RFC 9112, section 9.6).
-#[tactic(auto, unfolding(ecr_model::specs::Framing::says_close))]
+#[tactic(auto, unfolding(ecr_model::specs::http::Framing::says_close))]
 pub fn closes(request: &Request) -> bool
     ensures { result ≡ closes request.now }
 {
@@ -132,7 +132,7 @@ pub fn path_of(target: &[u8]) -> &[u8]
 }
 
 /// The greatest length of a body, which goes by the path.
-#[tactic(auto, unfolding(ecr_model::specs::Framing::max_body))]
+#[tactic(auto, unfolding(ecr_model::specs::http::Framing::max_body))]
 pub(crate) fn max_body(target: &[u8]) -> u64
     ensures value { result ≡ max_body target.now }
     ensures small { result ≤ 536870912 }

@@ -1,7 +1,7 @@
 // A request's head: where it ends, and what it says.
 ghost use Rattle.std.specs.Prelude.{◌≡◌, ◌≤◌, length, IfOk};
 ghost use Rattle.httparse.specs.Spans.{IsWithin, span_bytes};
-ghost use Rattle.ecr_model.specs.Framing.{max_head, ends_empty, HasNoEnd, EndsAt, Parses};
+ghost use Rattle.ecr_model.specs.http.Framing.{max_head, ends_empty, HasNoEnd, EndsAt, Parses};
 ghost use Rattle.ecr_http.specs.Spans.{head_at};
 ghost use Rattle.ecr_http.specs.Lines.{IsNextLine, line_count};
 
@@ -15,7 +15,7 @@ use std::alloc::Global;
 pub const MAX_HEAD: usize = 65_536;
 
 // Whether the first `n` bytes end with an empty line.
-#[tactic(auto, unfolding(ecr_model::specs::Framing::ends_empty))]
+#[tactic(auto, unfolding(ecr_model::specs::http::Framing::ends_empty))]
 fn ends_empty(bytes: &[u8], n: usize) -> bool
     requires { n ≤ length bytes.now }
     ensures { result ≡ ends_empty bytes.now n }
@@ -26,7 +26,7 @@ fn ends_empty(bytes: &[u8], n: usize) -> bool
 }
 
 /// Finds where a head ends, if its end is there. None ends in the first `from` bytes, which aren't looked at again.
-#[tactic(auto, unfolding(ecr_model::specs::Framing::max_head))]
+#[tactic(auto, unfolding(ecr_model::specs::http::Framing::max_head))]
 pub(crate) fn find_end(bytes: &[u8], from: usize) -> Option<usize>
     requires within { from ≤ length bytes.now }
     requires known { HasNoEnd bytes.now from }

@@ -39,7 +39,7 @@ impl Intake {
     ghost use Rattle.std.specs.Prelude.{IfNone, Some};
 
     /// Reads once. Where nothing comes, all is as before.
-    #[tactic(auto, unfolding(ecr_model::specs::Sessions::max_read))]
+    #[tactic(auto, unfolding(ecr_model::specs::sessions::Sessions::max_read))]
     pub(crate) fn fill<S: Source>(&mut self, source: &mut S) -> Option<Stop>
         ensures takes { Takes (S.left source.old) self.old (S.left source.new) self.new result }
         ensures nearer { IfNone result (left_to_read self.new < left_to_read self.old) }

@@ -1,7 +1,7 @@
 // The head of the request that comes next.
 ghost use Rattle.std.specs.Prelude.{◌≡◌, ◌≢◌, ◌<◌, ◌≤◌, ℕ, List, Option, None, length};
-ghost use Rattle.ecr_model.specs.Framing.{max_head, IsEnd, EndsAt};
-ghost use Rattle.ecr_model.specs.Stream.{is_blank, blank_length};
+ghost use Rattle.ecr_model.specs.http.Framing.{max_head, IsEnd, EndsAt};
+ghost use Rattle.ecr_model.specs.http.Stream.{is_blank, blank_length};
 
 use crate::head::{MAX_HEAD, find_end, parse_head};
 use crate::intake::{Intake, Stop};

@@ -1,8 +1,8 @@
 // The next event of a source.
 ghost use Rattle.std.specs.Prelude.{◌≡◌, ◌<◌, ◌≤◌, ℕ, true, List, Option, Some, IfOk, take};
-ghost use Rattle.ecr_model.specs.Framing.{max_head, IsEnd, Parses, waits};
-ghost use Rattle.ecr_model.specs.Replies.{continue_reply, interim};
-ghost use Rattle.ecr_model.specs.Stream.{request_of};
+ghost use Rattle.ecr_model.specs.http.Framing.{max_head, IsEnd, Parses, waits};
+ghost use Rattle.ecr_model.specs.http.Replies.{continue_reply, interim};
+ghost use Rattle.ecr_model.specs.http.Stream.{request_of};
 ghost use Rattle.ecr_http.specs.Sends.{Sends};
 
 use crate::body::Taken;
@@ -18,14 +18,14 @@ use ecr_outside::{Sink, Source};
 use std::alloc::Global;
 
 impl Intake {
-    ghost use Rattle.ecr_model.specs.Sessions.{max_read};
+    ghost use Rattle.ecr_model.specs.sessions.Sessions.{max_read};
     ghost use Rattle.ecr_http.specs.Events.{HasHead, Behind, closes_after, point_of, Fronts};
     ghost use Rattle.ecr_http.specs.Bodies.{FitsLimit};
     ghost use Rattle.ecr_http.specs.Leads.{IsReady, IsOpen, Leads};
     ghost use Rattle.ecr_http.specs.Reading.{Nexts};
     ghost use Rattle.ecr_http.specs.Takings.{IsStop};
     ghost use Rattle.ecr_http.specs.declared.lead.Lead.TheVariants as lead;
-    ghost use Rattle.ecr_model.specs.Stream.{start};
+    ghost use Rattle.ecr_model.specs.http.Stream.{start};
     ghost use Rattle.std.specs.Prelude.{[], false};
 
     /// Nothing was read.

@@ -1,7 +1,7 @@
 // The requests of a source, one after another.
 ghost use Rattle.std.specs.Prelude.{◌≡◌, ◌<◌, ◌≤◌, [], false, ℕ, List, Option, IfOk, length};
 ghost use Rattle.std.specs.Io.KnownBytes.{IsAtEnd};
-ghost use Rattle.ecr_model.specs.Stream.{start};
+ghost use Rattle.ecr_model.specs.http.Stream.{start};
 
 use crate::events::Event;
 use crate::intake::Intake;
@@ -22,7 +22,7 @@ pub struct Reader {
 
 impl Model for Reader {
     ghost use Rattle.std.specs.Prelude.{◌≡◌, false};
-    ghost use Rattle.ecr_model.specs.Stream.{Point};
+    ghost use Rattle.ecr_model.specs.http.Stream.{Point};
     ghost use Rattle.ecr_http.specs.Leads.{IsReady};
     ghost use Rattle.ecr_http.specs.Events.{point_of};
 

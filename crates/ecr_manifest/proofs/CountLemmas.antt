@@ -13,9 +13,9 @@ use Rattle.json.proofs.Unique.Spelling.{value-json_tokens_back}
 use Rattle.serde_json.specs.Data.{Data, null, boolean, number, string, array, object, Items, no_items, item, Members, no_members, member, put}
 use Rattle.serde_json.specs.Find.{get, get_member, as_array}
 use Rattle.serde_json.specs.Read.{number_of, of_json, of_items, of_members, max_depth, read}
-use Rattle.ecr_model.specs.Documents.{document}
-use Rattle.ecr_model.specs.declared.manifest.Descriptor.{Descriptor}
-use Rattle.ecr_model.specs.Manifests.{descriptors, entries_of, entries_name}
+use Rattle.ecr_model.specs.documents.Documents.{document}
+use Rattle.ecr_model.specs.declared.registry.manifest.Descriptor.{Descriptor}
+use Rattle.ecr_model.specs.documents.Manifests.{descriptors, entries_of, entries_name}
 use Rattle.ecr_manifest.specs.Counts.{size, items_size, members_size}
 
 -- ---- from bytes to tokens

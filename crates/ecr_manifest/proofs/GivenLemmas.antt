@@ -2,7 +2,7 @@
 use Rattle.std.proofs.Common.{◌≡◌, ℕ, suc, ◌+◌, ◌<◌, ◌==◌, false, List, [], ◌∷◌, ◌++◌, length, take, get_or, refl, ap, ◌∙◌, arith}
 use Rattle.std.proofs.lemmas.Bool.{ne_eqb}
 use Rattle.std.proofs.lemmas.List.{take_more, length-take-le}
-use Rattle.ecr_model.specs.Manifests.{through_last}
+use Rattle.ecr_model.specs.documents.Manifests.{through_last}
 
 -- one byte more at the end, a space
 through_last-push_space : (t : List ℕ) → through_last (t ++ 32 ∷ []) ≡ through_last t

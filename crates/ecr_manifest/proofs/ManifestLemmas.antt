@@ -2,8 +2,8 @@
 use Rattle.std.proofs.Common.{◌≡◌, List, [], ◌∷◌, map, Option, refl, ap}
 use Rattle.serde_json.specs.View.{items_view, view}
 use Rattle.serde_json.specs.declared.value.Value.{Value}
-use Rattle.ecr_model.specs.declared.manifest.Descriptor.{Descriptor}
-use Rattle.ecr_model.specs.Manifests.{descriptor_of, descriptors}
+use Rattle.ecr_model.specs.declared.registry.manifest.Descriptor.{Descriptor}
+use Rattle.ecr_model.specs.documents.Manifests.{descriptor_of, descriptors}
 
 -- the entries of a list of values
 pub descriptors-items_view : (values : List Value) → descriptors (items_view values) ≡ map (λ v. descriptor_of (view v)) values

@@ -8,7 +8,7 @@ use Rattle.std.proofs.lemmas.List.Sums.{fold_more}
 use Rattle.std.proofs.lemmas.Slice.Eq.{bytes_eq-Decides}
 use Rattle.std.proofs.lemmas.Bool.Decides.{same_from_decides, Decides-like}
 use Rattle.ecr_model.specs.declared.names.Digest.{Digest}
-use Rattle.ecr_model.specs.Manifests.{with_digest}
+use Rattle.ecr_model.specs.documents.Manifests.{with_digest}
 
 -- whether the bytes are those of one of the digests
 abbrev pub is_kept : List ℕ → List Digest → Bool

@@ -1,7 +1,7 @@
 -- What a refusal says.
 use Rattle.std.specs.Prelude.{◌≡◌, Result, Err}
-use Rattle.ecr_model.specs.declared.manifest.Facts.{Facts}
-use Rattle.ecr_model.specs.declared.manifest.ManifestFault.{ManifestFault}
+use Rattle.ecr_model.specs.declared.registry.manifest.Facts.{Facts}
+use Rattle.ecr_model.specs.declared.registry.manifest.ManifestFault.{ManifestFault}
 use Rattle.ecr_manifest.specs.declared.bytes.ManifestRefusal.{ManifestRefusal}
 use Rattle.ecr_manifest.specs.declared.bytes.ManifestRefusal.TheVariants.{Bad, Mem}
 

@@ -1,7 +1,7 @@
 // What a manifest names.
 ghost use Rattle.std.specs.Prelude.{◌≡◌, ◌<◌, ◌^◌, ◌∷◌, IfOk, IfSome, Some, List, filter, length, map, not, option_map};
 ghost use Rattle.std.specs.List.{filter_map, position, sum_by};
-ghost use Rattle.ecr_model.specs.Manifests.{each_once, facts_of, is_no_descriptor, judged, named, size_from, size_of, some_of, stored_digests};
+ghost use Rattle.ecr_model.specs.documents.Manifests.{each_once, facts_of, is_no_descriptor, judged, named, size_from, size_of, some_of, stored_digests};
 
 use crate::manifest::fault;
 use crate::once::each_once;
@@ -12,7 +12,7 @@ use std::alloc::Global;
 const MAX_SIZE: u64 = 9_223_372_036_854_775_807;
 
 /// The facts of the manifest that names these, or what is wrong with them.
-#[tactic(auto, unfolding(ecr_model::specs::Manifests::judged, ecr_model::specs::Manifests::blobs_fault))]
+#[tactic(auto, unfolding(ecr_model::specs::documents::Manifests::judged, ecr_model::specs::documents::Manifests::blobs_fault))]
 pub(crate) fn judged(
     alloc: Global,
     list: bool,

@@ -2,8 +2,8 @@
 ghost use Rattle.std.specs.Prelude.{◌≡◌, ◌<◌, ◌^◌, IfOk, IfErr, Ok, length, option_map};
 ghost use Rattle.serde_json.specs.Read.{read};
 ghost use Rattle.serde_json.specs.View.{view};
-ghost use Rattle.ecr_model.specs.Documents.{document};
-ghost use Rattle.ecr_model.specs.Manifests.{facts, given_type};
+ghost use Rattle.ecr_model.specs.documents.Documents.{document};
+ghost use Rattle.ecr_model.specs.documents.Manifests.{facts, given_type};
 ghost use Rattle.ecr_manifest.specs.Refusals.{Tells};
 
 use crate::given::given_type;
@@ -44,7 +44,7 @@ pub fn read(alloc: Global, bytes: &[u8], media: Option<&str>) -> Result<Facts, M
 }
 
 /// The facts, or what is wrong.
-#[tactic(auto, unfolding(ecr_model::specs::Manifests::facts))]
+#[tactic(auto, unfolding(ecr_model::specs::documents::Manifests::facts))]
 fn facts(
     alloc: Global,
     bytes: &[u8],
@@ -70,7 +70,7 @@ fn given<'a>(media: Option<&'a str>) -> Option<&'a [u8]>
 }
 
 /// The JSON reading of the bytes; what isn't UTF-8 has none.
-#[tactic(auto, unfolding(ecr_model::specs::Documents::document))]
+#[tactic(auto, unfolding(ecr_model::specs::documents::Documents::document))]
 fn read_document(alloc: Global, bytes: &[u8]) -> Result<Option<Value>, Mem>
     ensures { IfOk result (λ o. option_map view o ≡ document bytes.now) }
 {

@@ -2,8 +2,8 @@
 ghost use Rattle.std.specs.Prelude.{◌≡◌, take, option_and_then, option_map};
 ghost use Rattle.serde_json.specs.Find.{get};
 ghost use Rattle.serde_json.specs.View.{view};
-ghost use Rattle.ecr_model.specs.Digests.{digest_of};
-ghost use Rattle.ecr_model.specs.Manifests.{described, descriptor_of, is_foreign, size_from, text_of, whole_of};
+ghost use Rattle.ecr_model.specs.names.Digests.{digest_of};
+ghost use Rattle.ecr_model.specs.documents.Manifests.{described, descriptor_of, is_foreign, size_from, text_of, whole_of};
 
 use ecr_base::read_digest;
 use ecr_model::{Descriptor, Digest};
@@ -16,7 +16,7 @@ const DOCKER_FOREIGN: &[u8] = b"application/vnd.docker.image.rootfs.foreign.diff
 const OCI_FOREIGN: &[u8] = b"application/vnd.oci.image.layer.nondistributable.v1.";
 
 /// The descriptor that the value is.
-#[tactic(auto, unfolding(ecr_model::specs::Manifests::descriptor_of))]
+#[tactic(auto, unfolding(ecr_model::specs::documents::Manifests::descriptor_of))]
 pub(crate) fn descriptor_of(value: &Value) -> Option<Descriptor>
     ensures { result ≡ descriptor_of (view value.now) }
 {
@@ -93,7 +93,7 @@ fn size_from(stated: Option<u64>) -> Option<u64>
 }
 
 /// Whether a layer of the type needn't be stored.
-#[tactic(auto, unfolding(ecr_model::specs::Manifests::is_foreign))]
+#[tactic(auto, unfolding(ecr_model::specs::documents::Manifests::is_foreign))]
 fn is_foreign(media: &[u8]) -> bool
     ensures { result ≡ is_foreign media.now }
 {

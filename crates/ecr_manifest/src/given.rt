@@ -1,10 +1,10 @@
 // A media type that was given with a request.
 ghost use Rattle.std.specs.Prelude.{◌≡◌, ◌==◌};
 ghost use Rattle.std.specs.List.{before_first};
-ghost use Rattle.ecr_model.specs.Manifests.{after_spaces, before_spaces, given_type};
+ghost use Rattle.ecr_model.specs.documents.Manifests.{after_spaces, before_spaces, given_type};
 
 /// The type up to its first `;`, without the spaces at its ends.
-#[tactic(auto, unfolding(ecr_model::specs::Manifests::given_type))]
+#[tactic(auto, unfolding(ecr_model::specs::documents::Manifests::given_type))]
 pub(crate) fn given_type(text: &[u8]) -> &[u8]
     ensures { result.now ≡ given_type text.now }
 {

@@ -2,7 +2,7 @@
 ghost use Rattle.std.specs.Prelude.{◌≡◌, ◌+◌, ◌≤◌, ◌^◌, IfOk, IfSome, length, map, option_and_then, option_map};
 ghost use Rattle.serde_json.specs.Find.{as_array, get};
 ghost use Rattle.serde_json.specs.View.{items_view, view};
-ghost use Rattle.ecr_model.specs.Manifests.{config_of, descriptor_of, descriptors, differs, entries_name, entries_of, is_image, is_list, is_mistyped, is_two, judged, manifest_fault, media_from, media_of, reading, stored};
+ghost use Rattle.ecr_model.specs.documents.Manifests.{config_of, descriptor_of, descriptors, differs, entries_name, entries_of, is_image, is_list, is_mistyped, is_two, judged, manifest_fault, media_from, media_of, reading, stored};
 ghost use Rattle.ecr_manifest.specs.Counts.{size};
 
 use crate::blobs::judged;
@@ -20,7 +20,7 @@ const OCI_MANIFEST: &[u8] = b"application/vnd.oci.image.manifest.v1+json";
 const OCI_INDEX: &[u8] = b"application/vnd.oci.image.index.v1+json";
 
 /// The facts of the manifest, or what is wrong.
-#[tactic(auto, unfolding(ecr_model::specs::Manifests::reading))]
+#[tactic(auto, unfolding(ecr_model::specs::documents::Manifests::reading))]
 pub(crate) fn reading(
     alloc: Global,
     given: Option<&[u8]>,
@@ -51,7 +51,7 @@ fn read_blobs(
 }
 
 /// What is wrong with the manifest itself.
-#[tactic(auto, unfolding(ecr_model::specs::Manifests::manifest_fault))]
+#[tactic(auto, unfolding(ecr_model::specs::documents::Manifests::manifest_fault))]
 fn manifest_fault(given: Option<&[u8]>, value: &Value) -> Option<ManifestFault>
     ensures { result ≡ manifest_fault (option_map (λ v. v.now) given.entry) (view value.now) }
 {
@@ -123,7 +123,7 @@ fn media_from<'a>(stated: Option<&'a str>, given: Option<&'a [u8]>) -> &'a [u8]
 }
 
 /// Whether the type is one of a list of manifests.
-#[tactic(auto, unfolding(ecr_model::specs::Manifests::is_list))]
+#[tactic(auto, unfolding(ecr_model::specs::documents::Manifests::is_list))]
 fn is_list(media: &[u8]) -> bool
     ensures { result ≡ is_list media.now }
 {
@@ -131,7 +131,7 @@ fn is_list(media: &[u8]) -> bool
 }
 
 /// Whether the type is one of an image.
-#[tactic(auto, unfolding(ecr_model::specs::Manifests::is_image))]
+#[tactic(auto, unfolding(ecr_model::specs::documents::Manifests::is_image))]
 fn is_image(media: &[u8]) -> bool
     ensures { result ≡ is_image media.now }
 {

@@ -4,14 +4,14 @@ ghost use Rattle.std.specs.Bool.{OnFalse};
 ghost use Rattle.std.specs.BTreeSet.{contains};
 ghost use Rattle.std.specs.Cmp.Lexicographic.{slice_cmp};
 ghost use Rattle.std.specs.Ordering.{is_eq, nat_cmp};
-ghost use Rattle.ecr_model.specs.Manifests.{each_once};
+ghost use Rattle.ecr_model.specs.documents.Manifests.{each_once};
 
 use ecr_model::{Digest, Listed, Mem};
 use std::alloc::Global;
 use std::collections::BTreeSet;
 
 /// Each digest once, where it stands first.
-#[tactic(auto, unfolding(ecr_model::specs::Manifests::each_once))]
+#[tactic(auto, unfolding(ecr_model::specs::documents::Manifests::each_once))]
 pub(crate) fn each_once(alloc: Global, digests: &[Digest]) -> Result<Listed<Digest>, Mem>
     ensures { IfOk result (λ l. l ≡ each_once digests.now) }
 {

@@ -1,4 +1,6 @@
 // What was read of a request (RFC 9112).
+pub mod fields;
+
 use crate::{Fields, Text};
 
 /// The head of a request (RFC 9112, sections 3 and 5).

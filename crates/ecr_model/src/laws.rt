@@ -1,8 +1,13 @@
 // The laws of the definitions that contracts cite. The functions do nothing: their contracts are the laws.
-ghost use Rattle.ecr_model.specs.Example.{AChunkedBodyIsRead, AFirstCreationIsAnswered, AFirstRequestIsRead, AFirstSessionIsWritten};
-ghost use Rattle.ecr_model.specs.ScriptLaws.{ACreationIsKept, NotFoundHasItsCause};
-ghost use Rattle.ecr_model.specs.SessionLaws.{AFixedMomentIsEach, OutputIsDetermined, PlacesAreFresh, SessionsKeepJournalsSound, TheClockTellsTheMoments, TheInputDecidesTheEnd};
-ghost use Rattle.ecr_model.specs.StreamLaws.{ACutChangesNothing, AnEndStays, BytesHaveAReading, RequestsAreDetermined};
+ghost use Rattle.ecr_model.specs.examples.Example.{AChunkedBodyIsRead, AFirstCreationIsAnswered, AFirstRequestIsRead, AFirstSessionIsWritten};
+ghost use Rattle.ecr_model.specs.laws.ScriptLaws.{ACreationIsKept, NotFoundHasItsCause};
+ghost use Rattle.ecr_model.specs.laws.SessionLaws.{AFixedMomentIsEach, OutputIsDetermined, PlacesAreFresh, SessionsKeepJournalsSound, TheClockTellsTheMoments, TheInputDecidesTheEnd};
+ghost use Rattle.ecr_model.specs.laws.StreamLaws.{ACutChangesNothing, AnEndStays, BytesHaveAReading, RequestsAreDetermined};
+
+pub mod api;
+pub mod crossing;
+pub mod journal;
+pub mod views;
 
 /// The bytes of a stream determine its requests, and how it goes on after them.
 pub fn requests_are_determined()
@@ -54,7 +59,7 @@ pub fn places_are_fresh()
 {}
 
 /// The definitions, at one request that creates a repository, come to the answer that is written out in
-/// `specs/Example.antt`.
+/// `specs/examples/Example.antt`.
 pub fn a_first_creation_is_answered()
     ensures { AFirstCreationIsAnswered }
 {}

@@ -3,68 +3,113 @@
 //! `specs/` has the definitions, a file a subject. This crate keeps no state and decides nothing.
 #![tactic(auto)]
 
-mod action;
-mod api_laws;
-mod call;
-mod crossing;
-mod directory;
-mod fields;
 mod http;
-mod images;
-mod journal;
-mod journal_laws;
 mod laws;
-mod lifecycle;
-mod listed;
-mod manifest;
 mod names;
 mod outcome;
-mod rare;
-mod refusal;
-mod reply;
-mod repository;
-mod shared;
-mod text;
-mod twin;
-mod view_laws;
+mod registry;
+mod requests;
+mod values;
 
-pub use action::{Action, Domain, Member};
-pub use api_laws::{bodies_are_read, replies_are_written};
-pub use call::{Call, ImageId, Page, Put, SiteCall, TagStatus};
-pub use crossing::answers_cross_threads;
-pub use directory::{Configuration, Directory, Registered, ReplicationRule};
-pub use fields::Fields;
-pub use http::{Framing, Head, Request};
-pub use images::{Borne, BorneLayer, CopyFacts, Marked, PreviewRow, Row};
-pub use journal::{Act, CellJournal, CellKey, Entry, Frame, Limits, Line, Place};
-pub use journal_laws::{
-    a_first_part_is_sound, a_refusal_changes_nothing, a_replay_goes_on,
-    a_repository_comes_and_goes, a_sound_journal_grows, lines_stand_between, names_are_in_order,
-    the_last_is_now, the_lines_between_lead_on, what_was_stays,
-};
-pub use laws::{
-    a_chunked_body_is_read, a_creation_is_kept, a_cut_changes_nothing,
-    a_first_creation_is_answered, a_first_request_is_read, a_first_session_is_written,
-    an_end_stays, bytes_have_a_reading, not_found_has_its_cause, output_is_determined,
-    requests_are_determined, the_input_decides_the_end,
-};
-pub use lifecycle::{Choose, Count, Policy, PolicyFault, Rule};
-pub use listed::Listed;
-pub use manifest::{Descriptor, Facts, ManifestFault};
-pub use names::{CopyId, Digest, MAX_MOMENT, Moment, Name, RepoKey, SiteId, Tag};
-pub use outcome::{Cut, End};
-pub use rare::Rare;
-pub use refusal::{ConfigurationFault, Parameter, Refusal};
-pub use reply::{Described, Reply, SiteReply};
-pub use repository::{
-    CopyRecord, CopyState, CopyStatus, Layer, Mutability, Presence, Preview, Repository,
-    UploadState,
-};
-pub use shared::SharedText;
+pub use http::Framing;
+pub use http::Head;
+pub use http::Request;
+pub use http::fields::Fields;
+pub use laws::a_chunked_body_is_read;
+pub use laws::a_creation_is_kept;
+pub use laws::a_cut_changes_nothing;
+pub use laws::a_first_creation_is_answered;
+pub use laws::a_first_request_is_read;
+pub use laws::a_first_session_is_written;
+pub use laws::an_end_stays;
+pub use laws::api::bodies_are_read;
+pub use laws::api::replies_are_written;
+pub use laws::bytes_have_a_reading;
+pub use laws::crossing::answers_cross_threads;
+pub use laws::journal::a_first_part_is_sound;
+pub use laws::journal::a_refusal_changes_nothing;
+pub use laws::journal::a_replay_goes_on;
+pub use laws::journal::a_repository_comes_and_goes;
+pub use laws::journal::a_sound_journal_grows;
+pub use laws::journal::lines_stand_between;
+pub use laws::journal::names_are_in_order;
+pub use laws::journal::the_last_is_now;
+pub use laws::journal::the_lines_between_lead_on;
+pub use laws::journal::what_was_stays;
+pub use laws::not_found_has_its_cause;
+pub use laws::output_is_determined;
+pub use laws::requests_are_determined;
+pub use laws::the_input_decides_the_end;
+pub use laws::views::a_call_is_visited;
+pub use laws::views::alone_turns_are_runs;
+pub use laws::views::answers_stay;
+pub use laws::views::own_lines_are_entered;
+pub use laws::views::turns_compose;
+pub use laws::views::views_go_on;
+pub use laws::views::what_was_seen_stays;
+pub use names::CopyId;
+pub use names::Digest;
+pub use names::MAX_MOMENT;
+pub use names::Moment;
+pub use names::Name;
+pub use names::RepoKey;
+pub use names::SiteId;
+pub use names::Tag;
+pub use outcome::Cut;
+pub use outcome::End;
+pub use registry::directory::Configuration;
+pub use registry::directory::Directory;
+pub use registry::directory::Registered;
+pub use registry::directory::ReplicationRule;
+pub use registry::images::Borne;
+pub use registry::images::BorneLayer;
+pub use registry::images::CopyFacts;
+pub use registry::images::Marked;
+pub use registry::images::PreviewRow;
+pub use registry::images::Row;
+pub use registry::journal::Act;
+pub use registry::journal::CellJournal;
+pub use registry::journal::CellKey;
+pub use registry::journal::Entry;
+pub use registry::journal::Frame;
+pub use registry::journal::Limits;
+pub use registry::journal::Line;
+pub use registry::journal::Place;
+pub use registry::lifecycle::Choose;
+pub use registry::lifecycle::Count;
+pub use registry::lifecycle::Policy;
+pub use registry::lifecycle::PolicyFault;
+pub use registry::lifecycle::Rule;
+pub use registry::manifest::Descriptor;
+pub use registry::manifest::Facts;
+pub use registry::manifest::ManifestFault;
+pub use registry::repository::CopyRecord;
+pub use registry::repository::CopyState;
+pub use registry::repository::CopyStatus;
+pub use registry::repository::Layer;
+pub use registry::repository::Mutability;
+pub use registry::repository::Presence;
+pub use registry::repository::Preview;
+pub use registry::repository::Repository;
+pub use registry::repository::UploadState;
+pub use requests::action::Action;
+pub use requests::action::Domain;
+pub use requests::action::Member;
+pub use requests::call::Call;
+pub use requests::call::ImageId;
+pub use requests::call::Page;
+pub use requests::call::Put;
+pub use requests::call::SiteCall;
+pub use requests::call::TagStatus;
+pub use requests::refusal::ConfigurationFault;
+pub use requests::refusal::Parameter;
+pub use requests::refusal::Refusal;
+pub use requests::reply::Described;
+pub use requests::reply::Reply;
+pub use requests::reply::SiteReply;
 pub use std::alloc::AllocError as Mem;
-pub use text::Text;
-pub use twin::Twin;
-pub use view_laws::{
-    a_call_is_visited, alone_turns_are_runs, answers_stay, own_lines_are_entered, turns_compose,
-    views_go_on, what_was_seen_stays,
-};
+pub use values::listed::Listed;
+pub use values::rare::Rare;
+pub use values::shared::SharedText;
+pub use values::text::Text;
+pub use values::twin::Twin;

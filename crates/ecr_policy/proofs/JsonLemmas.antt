@@ -4,7 +4,7 @@ use Rattle.std.specs.List.{list_all, list_any}
 use Rattle.std.specs.declared.alloc.Global.{Global}
 use Rattle.serde_json.specs.View.{view, items_view, members_view}
 use Rattle.serde_json.specs.declared.value.Value.{Value}
-use Rattle.ecr_model.specs.Policies.{are_among, is_prefix, are_prefixes, number_of, rules_of}
+use Rattle.ecr_model.specs.documents.Policies.{are_among, is_prefix, are_prefixes, number_of, rules_of}
 
 -- the names of an object's members are the keys of its entries
 pub are_among-members_view : (names : List (List ℕ)) (es : List (String Global × Value)) → are_among names (members_view es) ≡ list_all (λ k. list_any (λ name. bytes_eq (string_bytes k) name) names) (map (λ e. e.0) es)

@@ -16,9 +16,9 @@ use Rattle.std.proofs.lemmas.Map.Text.{is_eq-slice_cmp}
 use Rattle.std.proofs.lemmas.Slice.Eq.{bytes_eq-Decides, slice_eq-Decides}
 use denote.Ref.{Bor}
 use mathlib.Core.Logic.{⊎_elim}
-use Rattle.ecr_model.specs.declared.lifecycle.Choose.{Choose}
-use Rattle.ecr_model.specs.declared.lifecycle.Choose.TheVariants.{Prefixes}
-use Rattle.ecr_model.specs.Policies.{is_subset, have_same_texts}
+use Rattle.ecr_model.specs.declared.registry.lifecycle.Choose.{Choose}
+use Rattle.ecr_model.specs.declared.registry.lifecycle.Choose.TheVariants.{Prefixes}
+use Rattle.ecr_model.specs.documents.Policies.{is_subset, have_same_texts}
 use Rattle.ecr_policy.specs.Sets.{prefixes_of, is_among, InOrder}
 
 -- the order of the two doesn't matter

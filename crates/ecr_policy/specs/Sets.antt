@@ -4,8 +4,8 @@ use Rattle.std.specs.Cmp.Lexicographic.{slice_cmp}
 use Rattle.std.specs.List.{list_any}
 use Rattle.std.specs.List.Sorted.{IsStrictlySortedBy}
 use Rattle.std.specs.Ordering.{nat_cmp}
-use Rattle.ecr_model.specs.declared.lifecycle.Choose.{Choose}
-use Rattle.ecr_model.specs.declared.lifecycle.Choose.TheVariants.{Untagged, Any, Prefixes}
+use Rattle.ecr_model.specs.declared.registry.lifecycle.Choose.{Choose}
+use Rattle.ecr_model.specs.declared.registry.lifecycle.Choose.TheVariants.{Untagged, Any, Prefixes}
 
 -- the prefixes that the choice lists
 abbrev pub prefixes_of : Choose → List (List ℕ)

@@ -1,7 +1,7 @@
 // The rules of a policy beside each other: causes 14 to 17.
 ghost use Rattle.std.specs.Prelude.{◌≡◌, ◌≤◌, ◌==◌, IfOk, nat_lt, length, []};
 ghost use Rattle.std.specs.List.{list_any};
-ghost use Rattle.ecr_model.specs.Policies.{is_any, is_untagged, have_same_texts, clash, clashes_from};
+ghost use Rattle.ecr_model.specs.documents.Policies.{is_any, is_untagged, have_same_texts, clash, clashes_from};
 
 use crate::compared::Compared;
 use ecr_model::{Choose, Mem, PolicyFault, Rule};
@@ -44,7 +44,7 @@ fn first_among(rules: &[Compared<'_>]) -> Option<PolicyFault>
 }
 
 /// The first cause that holds of the rule beside the earlier ones and all.
-#[tactic(auto, unfolding(ecr_model::specs::Policies::clash))]
+#[tactic(auto, unfolding(ecr_model::specs::documents::Policies::clash))]
 fn clash(all: &[Compared<'_>], earlier: &[Compared<'_>], compared: &Compared<'_>) -> Option<u8>
     ensures { result ≡ clash all.now earlier.now compared.now }
 {

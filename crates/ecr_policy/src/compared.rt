@@ -1,7 +1,7 @@
 // A rule and its prefixes in order.
 ghost use Rattle.std.specs.Prelude.{◌≡◌, IfOk, map};
-ghost use Rattle.ecr_model.specs.Policies.{have_same_texts};
-ghost use Rattle.ecr_model.specs.declared.lifecycle.Rule.{Rule};
+ghost use Rattle.ecr_model.specs.documents.Policies.{have_same_texts};
+ghost use Rattle.ecr_model.specs.declared.registry.lifecycle.Rule.{Rule};
 ghost use Rattle.ecr_policy.specs.Sets.{prefixes_of, InOrder};
 
 use crate::marked::Marked;

@@ -4,7 +4,7 @@ ghost use Rattle.serde_json.specs.Data.{null};
 ghost use Rattle.std.specs.List.{list_any};
 ghost use Rattle.serde_json.specs.View.{view, items_view, members_view};
 ghost use Rattle.serde_json.specs.Find.{get, as_array, as_number, as_u64};
-ghost use Rattle.ecr_model.specs.Policies.{begins_character, characters, are_among, has_only, has, text_at, is_text_at, whole_at};
+ghost use Rattle.ecr_model.specs.documents.Policies.{begins_character, characters, are_among, has_only, has, text_at, is_text_at, whole_at};
 
 use serde_json::{Map, Value};
 

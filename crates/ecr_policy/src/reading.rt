@@ -2,8 +2,8 @@
 ghost use Rattle.std.specs.Prelude.{◌≡◌, ◌≤◌, [], ℕ, Ok, Err, IfOk, Some, length, option_map};
 ghost use Rattle.serde_json.specs.View.{view, items_view};
 ghost use Rattle.serde_json.specs.Read.{read};
-ghost use Rattle.ecr_model.specs.Documents.{document};
-ghost use Rattle.ecr_model.specs.Policies.{answer, by_number, clashes_from, has_length, list_fault, policy, policy_of, rules_in};
+ghost use Rattle.ecr_model.specs.documents.Documents.{document};
+ghost use Rattle.ecr_model.specs.documents.Policies.{answer, by_number, clashes_from, has_length, list_fault, policy, policy_of, rules_in};
 ghost use Rattle.ecr_policy.specs.declared.refusal.PolicyRefusal.TheVariants.{Bad};
 
 use crate::PolicyRefusal;
@@ -33,7 +33,7 @@ pub fn read(alloc: Global, text: &str) -> Result<Policy, PolicyRefusal>
 }
 
 /// The policy of the text, or its first fault.
-#[tactic(auto, using(crate::proofs::ReadingLemmas::answers), unfolding(ecr_model::specs::Policies::policy))]
+#[tactic(auto, using(crate::proofs::ReadingLemmas::answers), unfolding(ecr_model::specs::documents::Policies::policy))]
 fn read_policy(alloc: Global, text: &str) -> Result<Result<Policy, PolicyFault>, Mem>
     ensures { IfOk result (λ r. r ≡ policy text.now) }
 {
@@ -92,7 +92,7 @@ fn rules_at(mut value: Value) -> Option<Vec<Value>>
 }
 
 /// The policy of the list of rules, or its first fault.
-#[tactic(auto, unfolding(ecr_model::specs::Policies::list_fault))]
+#[tactic(auto, unfolding(ecr_model::specs::documents::Policies::list_fault))]
 fn read_rules(
     alloc: Global,
     text: &str,
@@ -107,7 +107,7 @@ fn read_rules(
 }
 
 /// The policy of the items, or the first fault from cause 3 on.
-#[tactic(auto, using(crate::proofs::JsonLemmas::items, crate::proofs::ReadingLemmas::answers), unfolding(ecr_model::specs::Policies::list_fault))]
+#[tactic(auto, using(crate::proofs::JsonLemmas::items, crate::proofs::ReadingLemmas::answers), unfolding(ecr_model::specs::documents::Policies::list_fault))]
 fn listed(alloc: Global, text: &str, items: Vec<Value>) -> Result<Result<Policy, PolicyFault>, Mem>
     ensures { IfOk result (λ r. r ≡ answer (list_fault (Some (items_view items.items))) (policy_of text.now (Some (items_view items.items)))) }
 {

@@ -2,7 +2,7 @@
 ghost use Rattle.std.specs.Prelude.{◌≡◌, ◌≤◌, IfOk, length, option_map, unwrap_or};
 ghost use Rattle.serde_json.specs.Data.{null};
 ghost use Rattle.serde_json.specs.View.{view, items_view};
-ghost use Rattle.ecr_model.specs.Policies.{has_only, is_action, is_described, priority_of, rule_fault, rule_members, rule_of, rules_fault, rules_of, selection_fault};
+ghost use Rattle.ecr_model.specs.documents.Policies.{has_only, is_action, is_described, priority_of, rule_fault, rule_members, rule_of, rules_fault, rules_of, selection_fault};
 
 use crate::json::{has, has_only, is_text_at, take, text_at, whole_at};
 use crate::selection::{choose_of, count_of, selection_fault};
@@ -38,7 +38,7 @@ pub(crate) fn rules_of(alloc: Global, items: Vec<Value>) -> Result<Listed<Rule>,
 }
 
 /// The first cause that holds of the rule by itself.
-#[tactic(auto, unfolding(ecr_model::specs::Policies::rule_fault))]
+#[tactic(auto, unfolding(ecr_model::specs::documents::Policies::rule_fault))]
 fn rule_fault(rule: &Value) -> Option<u8>
     ensures { result ≡ rule_fault (view rule.now) }
 {
@@ -61,7 +61,7 @@ fn rule_fault(rule: &Value) -> Option<u8>
 }
 
 /// The first cause that holds of a rule's selection; one that isn't there is null.
-#[tactic(auto, unfolding(ecr_model::specs::Policies::selection_fault))]
+#[tactic(auto, unfolding(ecr_model::specs::documents::Policies::selection_fault))]
 fn fault_of_selection(selection: Option<&Value>) -> Option<u8>
     ensures { result ≡ selection_fault (unwrap_or (option_map (λ s. view s.now) selection.entry) null) }
 {

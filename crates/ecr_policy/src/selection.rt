@@ -3,7 +3,7 @@ ghost use Rattle.std.specs.Prelude.{◌≡◌, ◌&&◌, false, IfOk, nat_le, op
 ghost use Rattle.serde_json.specs.Data.{no_items};
 ghost use Rattle.serde_json.specs.View.{view, items_view};
 ghost use Rattle.std.specs.Option.{option_map_or};
-ghost use Rattle.ecr_model.specs.Policies.{are_prefixes, choose_of, count_number, count_of, counts_days, counts_images, has_its_prefixes, has_its_unit, has_only, is_prefix, is_prefix_list, prefix_list, selection_fault, selection_members, selects_any, selects_tagged, selects_untagged, texts_of};
+ghost use Rattle.ecr_model.specs.documents.Policies.{are_prefixes, choose_of, count_number, count_of, counts_days, counts_images, has_its_prefixes, has_its_unit, has_only, is_prefix, is_prefix_list, prefix_list, selection_fault, selection_members, selects_any, selects_tagged, selects_untagged, texts_of};
 
 use crate::json::{characters, has, has_only, is_text_at, list_at, take_list, whole_at};
 use ecr_model::{Choose, Count, Listed, Mem, Text};
@@ -11,7 +11,7 @@ use serde_json::Value;
 use std::alloc::Global;
 
 /// The first cause that holds of the selection.
-#[tactic(auto, unfolding(ecr_model::specs::Policies::selection_fault))]
+#[tactic(auto, unfolding(ecr_model::specs::documents::Policies::selection_fault))]
 pub(crate) fn selection_fault(selection: &Value) -> Option<u8>
     ensures { result ≡ selection_fault (view selection.now) }
 {

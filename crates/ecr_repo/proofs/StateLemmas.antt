@@ -1,15 +1,15 @@
 -- What holds of a state's journal and of what it leads to.
 use Rattle.std.proofs.Common.{◌≡◌, ◌≤◌, ℕ, suc, List, [], ◌∷◌, ◌++◌, Option, None, Some, is_some, if◌then◌else◌, unwrap_or, refl, sym, ap, ◌∙◌, subst, arith}
-use Rattle.ecr_model.specs.declared.call.Call.{Call}
-use Rattle.ecr_model.specs.declared.call.Call.TheVariants.{Describe}
-use Rattle.ecr_model.specs.declared.journal.Limits.{Limits}
-use Rattle.ecr_model.specs.declared.journal.Line.{Line}
+use Rattle.ecr_model.specs.declared.requests.call.Call.{Call}
+use Rattle.ecr_model.specs.declared.requests.call.Call.TheVariants.{Describe}
+use Rattle.ecr_model.specs.declared.registry.journal.Limits.{Limits}
+use Rattle.ecr_model.specs.declared.registry.journal.Line.{Line}
 use Rattle.ecr_model.specs.declared.names.RepoKey.{RepoKey}
-use Rattle.ecr_model.specs.declared.repository.Repository.{Repository}
-use Rattle.ecr_model.specs.Journals.{past_from, past}
-use Rattle.ecr_model.specs.Journals as journals
-use Rattle.ecr_model.specs.Steps.{Turn, first_state, step, after_line, replay, line_of}
-use Rattle.ecr_model.proofs.JournalLemmas.{IsSoundFrom-push, replay-push}
+use Rattle.ecr_model.specs.declared.registry.repository.Repository.{Repository}
+use Rattle.ecr_model.specs.registry.Journals.{past_from, past}
+use Rattle.ecr_model.specs.registry.Journals as journals
+use Rattle.ecr_model.specs.registry.Steps.{Turn, first_state, step, after_line, replay, line_of}
+use Rattle.ecr_model.proofs.lemmas.registry.JournalLemmas.{IsSoundFrom-push, replay-push}
 use Rattle.ecr_repo.specs.Cells.{IsKept}
 use Rattle.ecr_repo.specs.StateLaws.{AnAnswerChangesNothing, TheNextTurnIsLater}
 

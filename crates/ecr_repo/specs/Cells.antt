@@ -1,17 +1,17 @@
 -- What a repository's name has, and what a call makes of it (Amazon ECR API Reference, the actions). Moments are in
 -- seconds.
 use Rattle.std.specs.Prelude.{◌≡◌, ℕ, false, List, Option, is_some, unwrap_or}
-use Rattle.ecr_model.specs.declared.call.Call.{Call}
-use Rattle.ecr_model.specs.declared.journal.Limits.{Limits}
-use Rattle.ecr_model.specs.declared.journal.Line.{Line}
+use Rattle.ecr_model.specs.declared.requests.call.Call.{Call}
+use Rattle.ecr_model.specs.declared.registry.journal.Limits.{Limits}
+use Rattle.ecr_model.specs.declared.registry.journal.Line.{Line}
 use Rattle.ecr_model.specs.declared.names.RepoKey.{RepoKey}
 use Rattle.ecr_model.specs.declared.names.SiteId.{SiteId}
-use Rattle.ecr_model.specs.declared.reply.Described.{Described}
-use Rattle.ecr_model.specs.declared.repository.Presence.{Presence}
-use Rattle.ecr_model.specs.declared.repository.Repository.{Repository}
-use Rattle.ecr_model.specs.Contents.{AreContents}
-use Rattle.ecr_model.specs.Steps.{Turn, first_state, step, replay, IsSound}
-use Rattle.ecr_model.specs.Steps as steps
+use Rattle.ecr_model.specs.declared.requests.reply.Described.{Described}
+use Rattle.ecr_model.specs.declared.registry.repository.Presence.{Presence}
+use Rattle.ecr_model.specs.declared.registry.repository.Repository.{Repository}
+use Rattle.ecr_model.specs.registry.Contents.{AreContents}
+use Rattle.ecr_model.specs.registry.Steps.{Turn, first_state, step, replay, IsSound}
+use Rattle.ecr_model.specs.registry.Steps as steps
 use Rattle.ecr_blob_upload.specs.declared.call.Outcome.{Outcome}
 use Rattle.ecr_repo.specs.States.{turn_at}
 

@@ -1,8 +1,8 @@
 -- What holds of a name's state in turns. Tickets count from 0.
 use Rattle.std.specs.Prelude.{◌≡◌, ◌≤◌, ℕ, suc, false}
-use Rattle.ecr_model.specs.declared.call.Call.{Call}
-use Rattle.ecr_model.specs.Journals.{past}
-use Rattle.ecr_model.specs.Steps.{Turn}
+use Rattle.ecr_model.specs.declared.requests.call.Call.{Call}
+use Rattle.ecr_model.specs.registry.Journals.{past}
+use Rattle.ecr_model.specs.registry.Steps.{Turn}
 use Rattle.ecr_repo.specs.States.{State, AnswersOnly, changes, after_call}
 
 -- a call that asks changes nothing

@@ -1,15 +1,15 @@
 -- A repository's name with its journal, and what goes with a call on it (Amazon ECR API Reference, the actions). Tickets
 -- count from 0, moments are in seconds.
 use Rattle.std.specs.Prelude.{◌≡◌, ℕ, Bool, List, [], ◌∷◌, ◌++◌, None, is_some, if◌then◌else◌}
-use Rattle.ecr_model.specs.declared.call.Call.{Call}
-use Rattle.ecr_model.specs.declared.call.Call.TheVariants.{Describe}
-use Rattle.ecr_model.specs.declared.journal.Limits.{Limits}
-use Rattle.ecr_model.specs.declared.journal.Line.{Line}
+use Rattle.ecr_model.specs.declared.requests.call.Call.{Call}
+use Rattle.ecr_model.specs.declared.requests.call.Call.TheVariants.{Describe}
+use Rattle.ecr_model.specs.declared.registry.journal.Limits.{Limits}
+use Rattle.ecr_model.specs.declared.registry.journal.Line.{Line}
 use Rattle.ecr_model.specs.declared.names.RepoKey.{RepoKey}
 use Rattle.ecr_model.specs.declared.names.SiteId.{SiteId}
-use Rattle.ecr_model.specs.declared.reply.Reply.{Reply}
-use Rattle.ecr_model.specs.declared.repository.Repository.{Repository}
-use Rattle.ecr_model.specs.Steps.{Outcome, Turn, turn_of, step, replay, line_of}
+use Rattle.ecr_model.specs.declared.requests.reply.Reply.{Reply}
+use Rattle.ecr_model.specs.declared.registry.repository.Repository.{Repository}
+use Rattle.ecr_model.specs.registry.Steps.{Outcome, Turn, turn_of, step, replay, line_of}
 use Rattle.ecr_blob_upload.specs.declared.call.Load.{Load}
 use Rattle.ecr_blob_upload.specs.Loads.{FitsCall}
 

@@ -1,8 +1,8 @@
 // What a repository's name has, and how each call changes it.
 ghost use Rattle.std.specs.Prelude.{◌≡◌, [], ◌∷◌, IfOk, OnErr, None, true, false};
-ghost use Rattle.ecr_model.specs.Contents.{AreContents};
-ghost use Rattle.ecr_model.specs.declared.reply.Reply.TheVariants as replies;
-ghost use Rattle.ecr_model.specs.Steps.{first_state, creates, deletes, describes, sets_mutability, same_mutability};
+ghost use Rattle.ecr_model.specs.registry.Contents.{AreContents};
+ghost use Rattle.ecr_model.specs.declared.requests.reply.Reply.TheVariants as replies;
+ghost use Rattle.ecr_model.specs.registry.Steps.{first_state, creates, deletes, describes, sets_mutability, same_mutability};
 ghost use Rattle.ecr_repo.specs.Cells.{IsDone, IsMade, IsAnswered, row_of};
 ghost use Rattle.ecr_repo.specs.States.{AnswersOnly};
 
@@ -20,7 +20,7 @@ pub(crate) struct Cell {
 }
 
 impl Model for Cell {
-    ghost use Rattle.ecr_model.specs.declared.repository.Repository.{Repository};
+    ghost use Rattle.ecr_model.specs.declared.registry.repository.Repository.{Repository};
     ghost use Rattle.ecr_repo.specs.Cells.{repository_of};
 
     ghost Value = { Repository };
@@ -30,7 +30,7 @@ impl Model for Cell {
 
 impl Cell {
     /// A name that was never used.
-    #[tactic(auto, unfolding(ecr_model::specs::Steps::first_state))]
+    #[tactic(auto, unfolding(ecr_model::specs::registry::Steps::first_state))]
     pub(crate) fn new() -> Cell
         ensures { result ≡ first_state }
     {
@@ -38,7 +38,7 @@ impl Cell {
     }
 
     /// Answers a call that changes nothing.
-    #[tactic(auto, unfolding(ecr_model::specs::Steps::step))]
+    #[tactic(auto, unfolding(ecr_model::specs::registry::Steps::step))]
     pub(crate) fn answer(&self, alloc: Global, key: &RepoKey, call: &Call) -> Result<Outcome, Mem>
         requires { AnswersOnly call.now }
         ensures { IfOk result (λ out. IsAnswered key.now call.now self.now out) }
@@ -50,7 +50,7 @@ impl Cell {
     }
 
     /// Answers a call and makes its change. After an `Err` nothing changed.
-    #[tactic(auto, unfolding(ecr_model::specs::Steps::step))]
+    #[tactic(auto, unfolding(ecr_model::specs::registry::Steps::step))]
     pub(crate) fn change(
         &mut self,
         alloc: Global,
@@ -90,7 +90,7 @@ impl Cell {
     }
 
     // DeleteRepository. The reply shows the repository as it was. There are no images yet that could refuse it.
-    #[tactic(auto, unfolding(ecr_model::specs::Steps::first_state))]
+    #[tactic(auto, unfolding(ecr_model::specs::registry::Steps::first_state))]
     fn delete(&mut self, alloc: Global, force: bool) -> Outcome
         ensures { IsDone (deletes force self.old) self.old self.new result }
     {

@@ -1,8 +1,8 @@
 // A repository's name with its journal.
 ghost use Rattle.std.specs.Prelude.{◌≡◌, ◌≤◌, ◌<◌, ◌∷◌, ◌++◌, [], false, IfOk, OnOk, OnErr, length, vec_len, vec_capacity, if◌then◌else◌};
-ghost use Rattle.ecr_model.specs.Contents.{AreContents};
-ghost use Rattle.ecr_model.specs.Journals.{past};
-ghost use Rattle.ecr_model.specs.Steps.{Turn, IsSound, line_of};
+ghost use Rattle.ecr_model.specs.registry.Contents.{AreContents};
+ghost use Rattle.ecr_model.specs.registry.Journals.{past};
+ghost use Rattle.ecr_model.specs.registry.Steps.{Turn, IsSound, line_of};
 ghost use Rattle.ecr_repo.specs.States.{AnswersOnly, Fits, turn_at, reply_to, changes, after_call};
 
 use crate::cell::Cell;

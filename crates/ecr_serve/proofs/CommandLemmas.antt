@@ -1,16 +1,16 @@
 -- What a command says of its words' readings and of its end.
 use Rattle.std.proofs.Common.{◌≡◌, ℕ, List, [], Option, sym, ap, ◌∙◌, subst}
-use Rattle.ecr_model.specs.declared.journal.Place.{Place}
-use Rattle.ecr_model.specs.declared.journal.Limits.{Limits}
+use Rattle.ecr_model.specs.declared.registry.journal.Place.{Place}
+use Rattle.ecr_model.specs.declared.registry.journal.Limits.{Limits}
 use Rattle.ecr_model.specs.declared.names.SiteId.{SiteId}
 use Rattle.ecr_model.specs.declared.outcome.Cut.{Cut}
 use Rattle.ecr_model.specs.declared.outcome.End.{End}
 use Rattle.ecr_model.specs.declared.outcome.End.TheVariants as ends
-use Rattle.ecr_model.specs.Commands.{IsSession, RunsSession, SaysUsage, fresh_session}
-use Rattle.ecr_model.specs.Limits.{standard}
-use Rattle.ecr_model.specs.Scripts.{World, fresh}
-use Rattle.ecr_model.specs.Sessions.{IsServed, Outside, Serves}
-use Rattle.ecr_model.proofs.CommandLemmas.{IsSession-unique}
+use Rattle.ecr_model.specs.sessions.Commands.{IsSession, RunsSession, SaysUsage, fresh_session}
+use Rattle.ecr_model.specs.registry.Limits.{standard}
+use Rattle.ecr_model.specs.registry.Scripts.{World, fresh}
+use Rattle.ecr_model.specs.sessions.Sessions.{IsServed, Outside, Serves}
+use Rattle.ecr_model.proofs.lemmas.sessions.CommandLemmas.{IsSession-unique}
 use Rattle.ecr_desk.specs.Desks.{StillState}
 use Rattle.ecr_session.proofs.StartLemmas.{Serves-nothing}
 

@@ -13,9 +13,9 @@ use Rattle.std.specs.Str.Parse.{ParsesUnsigned}
 use Rattle.std.proofs.lemmas.Fmt.{parse-decimal}
 use Rattle.ecr_model.specs.declared.names.TheConstants.{MAX_MOMENT}
 use Rattle.ecr_model.specs.declared.names.SiteId.{SiteId}
-use Rattle.ecr_model.specs.Sites.{IsSite, site_word}
-use Rattle.ecr_model.specs.Commands.{IsNoCommand, IsSession, clock_words}
-use Rattle.ecr_model.proofs.CommandLemmas.{same_parts, site_word-unique, site_words-no_clock}
+use Rattle.ecr_model.specs.names.Sites.{IsSite, site_word}
+use Rattle.ecr_model.specs.sessions.Commands.{IsNoCommand, IsSession, clock_words}
+use Rattle.ecr_model.proofs.lemmas.sessions.CommandLemmas.{same_parts, site_word-unique, site_words-no_clock}
 use Rattle.ecr_serve.specs.declared.words.SessionWords.{SessionWords}
 use Rattle.ecr_serve.specs.Words.{AreSites, IsMoment, IsNew, IsNoMoment}
 

@@ -2,7 +2,7 @@
 use Rattle.std.specs.Prelude.{◌≡◌, ◌≢◌, ◌≤◌, ℕ, List, All, AllPairs, Contains, map, decimal}
 use Rattle.ecr_model.specs.declared.names.SiteId.{SiteId}
 use Rattle.ecr_model.specs.declared.names.TheConstants.{MAX_MOMENT}
-use Rattle.ecr_model.specs.Sites.{IsSite, ReadsSite, site_word}
+use Rattle.ecr_model.specs.names.Sites.{IsSite, ReadsSite, site_word}
 
 -- the word is that moment, in decimal
 pub record IsMoment (word : List ℕ) (moment : ℕ) : Type 0 where

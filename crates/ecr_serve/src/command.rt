@@ -1,6 +1,6 @@
 // A command for one caller.
 ghost use Rattle.std.specs.Prelude.{◌≡◌, ◌<◌, [], ℕ, List, Option, length, map, string_bytes};
-ghost use Rattle.ecr_model.specs.Commands.{IsNoCommand, IsSession, RunsSession, SaysUsage, status_of, usage_lines};
+ghost use Rattle.ecr_model.specs.sessions.Commands.{IsNoCommand, IsSession, RunsSession, SaysUsage, status_of, usage_lines};
 ghost use Rattle.ecr_model.specs.declared.names.SiteId.{SiteId};
 ghost use Rattle.ecr_http.specs.Sends.{Sends};
 

@@ -1,7 +1,7 @@
 // The words of a command.
 ghost use Rattle.std.specs.Prelude.{◌≡◌, ◌≤◌, ◌++◌, ◌∷◌, [], ◌↔◌, IfOk, IfSome, MatchOption, Contains, IsTrue, List, Some, codes, map, string_bytes};
 ghost use Rattle.ecr_model.specs.declared.names.SiteId.{SiteId};
-ghost use Rattle.ecr_model.specs.Commands.{IsNoCommand, IsSession, clock_words};
+ghost use Rattle.ecr_model.specs.sessions.Commands.{IsNoCommand, IsSession, clock_words};
 ghost use Rattle.ecr_serve.specs.Words.{AreSites, IsMoment, IsNew, IsNoMoment};
 
 use ecr_base::read_site;

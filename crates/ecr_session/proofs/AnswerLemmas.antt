@@ -1,31 +1,31 @@
 -- What a request's turns come to as an answer.
 use Rattle.std.proofs.Common.{◌≡◌, ◌+◌, ◌-◌, ◌∙◌, inl, inr, ℕ, Bool, true, false, List, [], ◌++◌, Option, None, Err, codes, refl, sym, ap, subst, arith}
 use Rattle.std.proofs.lemmas.Bool.{cond-true, cond-false}
-use Rattle.ecr_model.specs.declared.call.Call.{Call}
-use Rattle.ecr_model.specs.declared.call.Page.{Page}
-use Rattle.ecr_model.specs.declared.call.SiteCall.{SiteCall}
-use Rattle.ecr_model.specs.declared.call.SiteCall.TheVariants as site_calls
+use Rattle.ecr_model.specs.declared.requests.call.Call.{Call}
+use Rattle.ecr_model.specs.declared.requests.call.Page.{Page}
+use Rattle.ecr_model.specs.declared.requests.call.SiteCall.{SiteCall}
+use Rattle.ecr_model.specs.declared.requests.call.SiteCall.TheVariants as site_calls
 use Rattle.ecr_model.specs.declared.http.Request.{Request}
-use Rattle.ecr_model.specs.declared.journal.Place.{Place}
+use Rattle.ecr_model.specs.declared.registry.journal.Place.{Place}
 use Rattle.ecr_model.specs.declared.names.Digest.{Digest}
 use Rattle.ecr_model.specs.declared.names.Name.{Name}
 use Rattle.ecr_model.specs.declared.names.RepoKey.{RepoKey}
 use Rattle.ecr_model.specs.declared.names.SiteId.{SiteId}
 use Rattle.ecr_model.specs.declared.outcome.Cut.{Cut}
-use Rattle.ecr_model.specs.declared.refusal.Refusal.{Refusal}
-use Rattle.ecr_model.specs.declared.refusal.Refusal.TheVariants.{UnknownOperation}
-use Rattle.ecr_model.specs.declared.reply.Reply.{Reply}
-use Rattle.ecr_model.specs.declared.reply.Reply.TheVariants.{Refused}
-use Rattle.ecr_model.specs.declared.reply.SiteReply.{SiteReply}
-use Rattle.ecr_model.specs.Actions.{Asked, cell, site, many, Reading, asks, refuses, reading}
-use Rattle.ecr_model.specs.Contents.{AreContents}
-use Rattle.ecr_model.specs.Posed.{Posed, api, unrouted, base_of, is_json_call, posed_of, posed_script, posed_bytes, target_of}
-use Rattle.ecr_model.specs.Rendered.{json, refused}
-use Rattle.ecr_model.specs.Replies.{empty_reply, failed_reply, is_head}
-use Rattle.ecr_model.specs.Requests.{Decided, plain, asked_script, call_script, describe_script, of_site, page_script, site_script}
-use Rattle.ecr_model.specs.Scripts.{ends, count_changed}
-use Rattle.ecr_model.specs.Views.{places_of}
-use Rattle.ecr_model.specs.Stream.{closes}
+use Rattle.ecr_model.specs.declared.requests.refusal.Refusal.{Refusal}
+use Rattle.ecr_model.specs.declared.requests.refusal.Refusal.TheVariants.{UnknownOperation}
+use Rattle.ecr_model.specs.declared.requests.reply.Reply.{Reply}
+use Rattle.ecr_model.specs.declared.requests.reply.Reply.TheVariants.{Refused}
+use Rattle.ecr_model.specs.declared.requests.reply.SiteReply.{SiteReply}
+use Rattle.ecr_model.specs.requests.Actions.{Asked, cell, site, many, Reading, asks, refuses, reading}
+use Rattle.ecr_model.specs.registry.Contents.{AreContents}
+use Rattle.ecr_model.specs.requests.Posed.{Posed, api, unrouted, base_of, is_json_call, posed_of, posed_script, posed_bytes, target_of}
+use Rattle.ecr_model.specs.requests.Rendered.{json, refused}
+use Rattle.ecr_model.specs.http.Replies.{empty_reply, failed_reply, is_head}
+use Rattle.ecr_model.specs.requests.Requests.{Decided, plain, asked_script, call_script, describe_script, of_site, page_script, site_script}
+use Rattle.ecr_model.specs.registry.Scripts.{ends, count_changed}
+use Rattle.ecr_model.specs.registry.Views.{places_of}
+use Rattle.ecr_model.specs.http.Stream.{closes}
 use Rattle.ecr_api.specs.Readings.{Reads}
 use Rattle.ecr_api.specs.declared.asked.ApiRefusal.{ApiRefusal}
 use Rattle.ecr_api.specs.declared.asked.ApiRefusal.TheVariants as api_refusals

@@ -4,15 +4,15 @@ use Rattle.std.specs.Prelude.{Contains, find, unwrap_or, option_and_then, nat_lt
 use Rattle.std.specs.Option.{option_map_or, option_or}
 use Rattle.std.proofs.lemmas.Bool.Decides.{nat_tests}
 use Rattle.serde_json.specs.Data.{Data}
-use Rattle.ecr_model.specs.declared.action.Action.{Action}
+use Rattle.ecr_model.specs.declared.requests.action.Action.{Action}
 use Rattle.ecr_model.specs.declared.names.SiteId.{SiteId}
-use Rattle.ecr_model.specs.declared.refusal.Parameter.{Parameter}
-use Rattle.ecr_model.specs.declared.refusal.Parameter.TheVariants.{RegistryId, NextToken}
-use Rattle.ecr_model.specs.declared.refusal.Refusal.TheVariants.{Serialization}
-use Rattle.ecr_model.specs.Actions.{Asked, Made, one, several, Reading, asks, refuses, made_in, asked_in, made_by, unless_bad, values_reading, typed_reading, body_reading, action_reading, reading, site_in, text_at, members_of, action_of}
-use Rattle.ecr_model.specs.Hosts.{first_site, first_with, named_site, registry_host, api_host, site_for, without_port}
-use Rattle.ecr_model.specs.Documents.{document}
-use Rattle.ecr_model.specs.Members.{Valued, typed_members, digits_value, first_bad, is_decimal, place_of, site_of}
+use Rattle.ecr_model.specs.declared.requests.refusal.Parameter.{Parameter}
+use Rattle.ecr_model.specs.declared.requests.refusal.Parameter.TheVariants.{RegistryId, NextToken}
+use Rattle.ecr_model.specs.declared.requests.refusal.Refusal.TheVariants.{Serialization}
+use Rattle.ecr_model.specs.requests.Actions.{Asked, Made, one, several, Reading, asks, refuses, made_in, asked_in, made_by, unless_bad, values_reading, typed_reading, body_reading, action_reading, reading, site_in, text_at, members_of, action_of}
+use Rattle.ecr_model.specs.http.Hosts.{first_site, first_with, named_site, registry_host, api_host, site_for, without_port}
+use Rattle.ecr_model.specs.documents.Documents.{document}
+use Rattle.ecr_model.specs.requests.Members.{Valued, typed_members, digits_value, first_bad, is_decimal, place_of, site_of}
 use Rattle.ecr_session.specs.Turns.{IsAskable}
 
 -- ---- the site is served

@@ -5,11 +5,11 @@ use Rattle.std.specs.Io.KnownBytes.{Consumes, Appends, IsAtEnd}
 use Rattle.ecr_model.specs.declared.http.Request.{Request}
 use Rattle.ecr_model.specs.declared.outcome.End.{End}
 use Rattle.ecr_model.specs.declared.outcome.End.TheVariants as ends
-use Rattle.ecr_model.specs.Replies.{bad_reply, long_reply, continue_reply, interim}
+use Rattle.ecr_model.specs.http.Replies.{bad_reply, long_reply, continue_reply, interim}
 use Rattle.ecr_desk.specs.Desks.{DeskState}
-use Rattle.ecr_model.specs.Sessions.{Account, Outside, SettingOf, Exchange, Chain, CompletedBy, CutOffBy, Ends, IsUnspent, ServicedBy, last_words, max_read, refusal_of, requests_of, sent_to, stands}
-use Rattle.ecr_model.specs.Stream.{Point, start, grown, Begins, StopsBy, Lacks, Tail, Ending, ended, closed, truncated, bad_at, long_at, more}
-use Rattle.ecr_model.proofs.StreamLemmas.{Begins-append, Begins-length}
+use Rattle.ecr_model.specs.sessions.Sessions.{Account, Outside, SettingOf, Exchange, Chain, CompletedBy, CutOffBy, Ends, IsUnspent, ServicedBy, last_words, max_read, refusal_of, requests_of, sent_to, stands}
+use Rattle.ecr_model.specs.http.Stream.{Point, start, grown, Begins, StopsBy, Lacks, Tail, Ending, ended, closed, truncated, bad_at, long_at, more}
+use Rattle.ecr_model.proofs.lemmas.http.StreamLemmas.{Begins-append, Begins-length}
 use Rattle.ecr_http.specs.Reading.{Nexts, bytes_read}
 use Rattle.ecr_http.specs.Reading as reading
 use Rattle.ecr_http.specs.Sends.{Sends}

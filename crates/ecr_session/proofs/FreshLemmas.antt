@@ -2,11 +2,11 @@
 use Rattle.std.proofs.Common.{List, sym, subst}
 use Rattle.ecr_model.specs.declared.outcome.End.{End}
 use Rattle.ecr_model.specs.declared.outcome.End.TheVariants as ends
-use Rattle.ecr_model.specs.Scripts.{World}
-use Rattle.ecr_model.specs.SessionLaws.{all_places}
-use Rattle.ecr_model.specs.Sessions.{Account, Outside, Setting, Exchange, Serviced, Serves, stands}
-use Rattle.ecr_model.specs.Soundness.{AreFresh, AreSound}
-use Rattle.ecr_model.proofs.SoundnessLemmas.{places_are_fresh}
+use Rattle.ecr_model.specs.registry.Scripts.{World}
+use Rattle.ecr_model.specs.laws.SessionLaws.{all_places}
+use Rattle.ecr_model.specs.sessions.Sessions.{Account, Outside, Setting, Exchange, Serviced, Serves, stands}
+use Rattle.ecr_model.specs.registry.Soundness.{AreFresh, AreSound}
+use Rattle.ecr_model.proofs.lemmas.registry.SoundnessLemmas.{places_are_fresh}
 
 -- the places of an account of exchanges over sound journals
 serviced_fresh : (set : Setting) (before after : Outside) (es : List Exchange) (account : Account) (last : World)

@@ -10,7 +10,7 @@ use Rattle.std.proofs.lemmas.List.Elements.{All-from_get_or}
 use Rattle.std.proofs.lemmas.List.Folds.{list_any_at, list_any_none}
 use Rattle.std.proofs.lemmas.List.Sums.{suffix_len_is}
 use Rattle.std.proofs.lemmas.Slice.Eq.{bytes_eq-Decides}
-use Rattle.ecr_model.specs.Hosts.{is_colon, is_port, without_port}
+use Rattle.ecr_model.specs.http.Hosts.{is_colon, is_port, without_port}
 
 -- ---- a front
 

@@ -4,15 +4,15 @@ use Rattle.std.proofs.KnownBytes.{Appends-trans, Consumes-trans}
 use Rattle.std.proofs.lemmas.List.{map-append}
 use Rattle.std.specs.Io.KnownBytes.{Consumes, Appends}
 use Rattle.ecr_model.specs.declared.http.Request.{Request}
-use Rattle.ecr_model.specs.declared.journal.Place.{Place}
+use Rattle.ecr_model.specs.declared.registry.journal.Place.{Place}
 use Rattle.ecr_model.specs.declared.outcome.Cut.{Cut}
 use Rattle.ecr_model.specs.declared.outcome.End.{End}
 use Rattle.ecr_model.specs.declared.outcome.End.TheVariants as ends
-use Rattle.ecr_model.specs.Replies.{interim, is_head}
-use Rattle.ecr_model.specs.Sessions.{Account, Outside, SettingOf, Exchange, StandingOf, CutOffBy, IsTime, ServicedBy, account_of, answer_to, is_waiting, requests_of, sent_to, stands}
-use Rattle.ecr_model.specs.Stream.{Point, start, closes, grown, past, Begins}
-use Rattle.ecr_model.proofs.SessionLemmas.{Chain-more, sent_to-more}
-use Rattle.ecr_model.proofs.StreamLemmas.{Begins-more}
+use Rattle.ecr_model.specs.http.Replies.{interim, is_head}
+use Rattle.ecr_model.specs.sessions.Sessions.{Account, Outside, SettingOf, Exchange, StandingOf, CutOffBy, IsTime, ServicedBy, account_of, answer_to, is_waiting, requests_of, sent_to, stands}
+use Rattle.ecr_model.specs.http.Stream.{Point, start, closes, grown, past, Begins}
+use Rattle.ecr_model.proofs.lemmas.sessions.SessionLemmas.{Chain-more, sent_to-more}
+use Rattle.ecr_model.proofs.lemmas.http.StreamLemmas.{Begins-more}
 use Rattle.ecr_desk.specs.Desks.{DeskState}
 use Rattle.ecr_http.specs.Reading.{Nexts}
 use Rattle.ecr_http.specs.Sends.{Sends}

@@ -1,12 +1,12 @@
 -- How a session begins.
 use Rattle.std.proofs.Common.{◌≡◌, ◌≤◌, ℕ, inl, List, [], length, map, refl, sym, ap, subst, arith}
 use Rattle.std.proofs.KnownBytes.{Appends-nil, Consumes-nil}
-use Rattle.ecr_model.specs.declared.journal.Place.{Place}
+use Rattle.ecr_model.specs.declared.registry.journal.Place.{Place}
 use Rattle.ecr_model.specs.declared.outcome.Cut.{Cut}
 use Rattle.ecr_model.specs.declared.outcome.End.{End}
 use Rattle.ecr_model.specs.declared.outcome.End.TheVariants as ends
-use Rattle.ecr_model.specs.Sessions.{Account, Exchange, Outside, SettingOf, StandingOf, AnsweredBy, ServicedBy, ServesBy, max_read}
-use Rattle.ecr_model.specs.Stream.{start}
+use Rattle.ecr_model.specs.sessions.Sessions.{Account, Exchange, Outside, SettingOf, StandingOf, AnsweredBy, ServicedBy, ServesBy, max_read}
+use Rattle.ecr_model.specs.http.Stream.{start}
 use Rattle.ecr_desk.specs.Desks.{DeskState}
 use Rattle.ecr_session.specs.Serving.{SoFar, HasCome, IsFresh, IsServedOver, account_in}
 use Rattle.ecr_session.specs.declared.session.Session.{Session}

@@ -2,20 +2,20 @@
 use Rattle.std.proofs.Common.{◌≡◌, ◌≤◌, ◌∙◌, inl, inr, ℕ, Bool, true, false, List, [], ◌∷◌, ◌++◌, map, sym, ap, subst, append-nil, append_assoc, arith}
 use Rattle.std.proofs.lemmas.Bool.{cond-true, cond-false}
 use Rattle.ecr_model.specs.declared.http.Request.{Request}
-use Rattle.ecr_model.specs.declared.journal.Place.{Place}
+use Rattle.ecr_model.specs.declared.registry.journal.Place.{Place}
 use Rattle.ecr_model.specs.declared.outcome.Cut.{Cut}
 use Rattle.ecr_model.specs.declared.outcome.End.{End}
 use Rattle.ecr_model.specs.declared.outcome.End.TheVariants as ends
-use Rattle.ecr_model.specs.Content.{content_digest}
-use Rattle.ecr_model.specs.Contents.{named_by}
-use Rattle.ecr_model.specs.Posed.{posed_of, posed_bytes}
-use Rattle.ecr_model.specs.Replies.{failed_reply, is_head}
-use Rattle.ecr_model.specs.Requests.{Decided}
-use Rattle.ecr_model.specs.Scripts.{Realm, World, run_to, count_changed}
-use Rattle.ecr_model.specs.Sessions.{Account, AnsweredBy, Answered, Chain, CompletedBy, Completed, Counts, CutOffBy, CutOff, Exchange, IsPlaced, IsServed, Outside, Serves, ServicedBy, Serviced, Setting, SettingOf, Standing, StandingOf, left_by, named_to, outcome_of, script_of, stands, written}
-use Rattle.ecr_model.specs.Stream.{closes}
-use Rattle.ecr_model.specs.Views.{places_of}
-use Rattle.ecr_model.proofs.ScriptLemmas.{count_changed-append, count_changed-run}
+use Rattle.ecr_model.specs.registry.Content.{content_digest}
+use Rattle.ecr_model.specs.registry.Contents.{named_by}
+use Rattle.ecr_model.specs.requests.Posed.{posed_of, posed_bytes}
+use Rattle.ecr_model.specs.http.Replies.{failed_reply, is_head}
+use Rattle.ecr_model.specs.requests.Requests.{Decided}
+use Rattle.ecr_model.specs.registry.Scripts.{Realm, World, run_to, count_changed}
+use Rattle.ecr_model.specs.sessions.Sessions.{Account, AnsweredBy, Answered, Chain, CompletedBy, Completed, Counts, CutOffBy, CutOff, Exchange, IsPlaced, IsServed, Outside, Serves, ServicedBy, Serviced, Setting, SettingOf, Standing, StandingOf, left_by, named_to, outcome_of, script_of, stands, written}
+use Rattle.ecr_model.specs.http.Stream.{closes}
+use Rattle.ecr_model.specs.registry.Views.{places_of}
+use Rattle.ecr_model.proofs.lemmas.registry.ScriptLemmas.{count_changed-append, count_changed-run}
 use Rattle.ecr_desk.specs.Desks.{DeskState, StillState, still_of, IsStill, run_on, Runs, RunsTo}
 use Rattle.ecr_desk.proofs.DeskLemmas.{Ran-runs, Stopped-runs_to, Stopped-still, first_places-le}
 use Rattle.ecr_session.specs.Serving.{Answers, IsAnswered, IsFailed, IsServedOver, ServesOver}

@@ -3,19 +3,19 @@ use Rattle.std.proofs.Common.{◌≡◌, ◌≤◌, ◌<◌, ◌+◌, ℕ, cond,
 use Rattle.std.proofs.lemmas.List.{drop_more}
 use Rattle.std.proofs.Math.ListN.{drop_of_length-le}
 use Rattle.std.specs.Prelude.{Contains, OnErr}
-use Rattle.ecr_model.specs.declared.call.Call.{Call}
-use Rattle.ecr_model.specs.declared.journal.Place.{Place}
+use Rattle.ecr_model.specs.declared.requests.call.Call.{Call}
+use Rattle.ecr_model.specs.declared.registry.journal.Place.{Place}
 use Rattle.ecr_model.specs.declared.names.Name.{Name}
 use Rattle.ecr_model.specs.declared.names.RepoKey.{RepoKey}
 use Rattle.ecr_model.specs.declared.names.SiteId.{SiteId}
-use Rattle.ecr_model.specs.declared.refusal.Refusal.{Refusal}
-use Rattle.ecr_model.specs.declared.reply.Described.{Described as Row}
-use Rattle.ecr_model.specs.declared.reply.Reply.{Reply}
-use Rattle.ecr_model.specs.declared.reply.Reply.TheVariants.{Described, Refused}
-use Rattle.ecr_model.specs.Requests.{Decided, call_script, one_script, rows_in, is_refused, named_script, listed_script}
-use Rattle.ecr_model.specs.Scripts.{Realm, Script, ends, then_do}
-use Rattle.ecr_model.specs.Views.{places_of}
-use Rattle.ecr_model.proofs.ViewLemmas.{places_of-append}
+use Rattle.ecr_model.specs.declared.requests.refusal.Refusal.{Refusal}
+use Rattle.ecr_model.specs.declared.requests.reply.Described.{Described as Row}
+use Rattle.ecr_model.specs.declared.requests.reply.Reply.{Reply}
+use Rattle.ecr_model.specs.declared.requests.reply.Reply.TheVariants.{Described, Refused}
+use Rattle.ecr_model.specs.requests.Requests.{Decided, call_script, one_script, rows_in, is_refused, named_script, listed_script}
+use Rattle.ecr_model.specs.registry.Scripts.{Realm, Script, ends, then_do}
+use Rattle.ecr_model.specs.registry.Views.{places_of}
+use Rattle.ecr_model.proofs.lemmas.registry.ViewLemmas.{places_of-append}
 use Rattle.ecr_desk.specs.Desks.{DeskState, Ran, Stopped, StoppedWithin}
 use Rattle.ecr_desk.proofs.DeskLemmas.{Ran-ends, Ran-then, Stopped-first, Stopped-none, Stopped-then, Stopped-whole}
 use Rattle.ecr_session.specs.Turns.{RanWith, StoppedWith, LeadsTo, IsDescribed, refusal_in}

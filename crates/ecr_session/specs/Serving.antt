@@ -3,19 +3,19 @@ use Rattle.std.specs.Prelude.{◌≡◌, ◌<◌, ℕ, ◌≤◌, Bool, true, fa
 use Rattle.std.specs.List.{sum_by}
 use Rattle.std.specs.Io.KnownBytes.{Consumes, Appends}
 use Rattle.ecr_model.specs.declared.http.Request.{Request}
-use Rattle.ecr_model.specs.declared.journal.Place.{Place}
+use Rattle.ecr_model.specs.declared.registry.journal.Place.{Place}
 use Rattle.ecr_model.specs.declared.names.Digest.{Digest}
 use Rattle.ecr_model.specs.declared.outcome.Cut.{Cut}
 use Rattle.ecr_model.specs.declared.outcome.End.{End}
 use Rattle.ecr_model.specs.declared.outcome.End.TheVariants as ends
-use Rattle.ecr_model.specs.Replies.{failed_reply, is_head}
-use Rattle.ecr_model.specs.Contents.{AreContents}
-use Rattle.ecr_model.specs.Posed.{posed_bytes, posed_of}
-use Rattle.ecr_model.specs.Requests.{Decided}
-use Rattle.ecr_model.specs.Scripts.{count_changed}
-use Rattle.ecr_model.specs.Views.{places_of}
-use Rattle.ecr_model.specs.Sessions.{Account, Outside, SettingOf, Exchange, IsTime, ServicedBy, ServesBy, StandingOf, max_read, requests_of, script_of, sent_to}
-use Rattle.ecr_model.specs.Stream.{Point, start, closes, Begins}
+use Rattle.ecr_model.specs.http.Replies.{failed_reply, is_head}
+use Rattle.ecr_model.specs.registry.Contents.{AreContents}
+use Rattle.ecr_model.specs.requests.Posed.{posed_bytes, posed_of}
+use Rattle.ecr_model.specs.requests.Requests.{Decided}
+use Rattle.ecr_model.specs.registry.Scripts.{count_changed}
+use Rattle.ecr_model.specs.registry.Views.{places_of}
+use Rattle.ecr_model.specs.sessions.Sessions.{Account, Outside, SettingOf, Exchange, IsTime, ServicedBy, ServesBy, StandingOf, max_read, requests_of, script_of, sent_to}
+use Rattle.ecr_model.specs.http.Stream.{Point, start, closes, Begins}
 use Rattle.ecr_desk.specs.Desks.{DeskState, Ran, Stopped}
 use Rattle.ecr_http.specs.Replies as http
 use Rattle.ecr_http.specs.Sends.{Sends}

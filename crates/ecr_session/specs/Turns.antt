@@ -1,20 +1,20 @@
 -- What a request's turns came to on a desk, with their places behind those of earlier turns.
 use Rattle.std.specs.Prelude.{◌≡◌, ◌<◌, ℕ, ◌^◌, Bool, List, ◌++◌, Option, None, Some, Contains}
-use Rattle.ecr_model.specs.declared.journal.Place.{Place}
+use Rattle.ecr_model.specs.declared.registry.journal.Place.{Place}
 use Rattle.ecr_model.specs.declared.names.Digest.{Digest}
 use Rattle.ecr_model.specs.declared.names.Name.{Name}
 use Rattle.ecr_model.specs.declared.names.SiteId.{SiteId}
-use Rattle.ecr_model.specs.declared.refusal.Refusal.{Refusal}
-use Rattle.ecr_model.specs.declared.reply.Described.{Described as Row}
-use Rattle.ecr_model.specs.declared.reply.Reply.{Reply}
-use Rattle.ecr_model.specs.declared.reply.Reply.TheVariants.{Refused}
-use Rattle.ecr_model.specs.Actions.{Asked, cell, site, many}
-use Rattle.ecr_model.specs.Contents.{AreContents}
-use Rattle.ecr_model.specs.Posed.{Posed, posed_bytes, posed_script}
-use Rattle.ecr_model.specs.Rendered.{site_asked}
-use Rattle.ecr_model.specs.Requests.{Decided, one_script, rows_in}
-use Rattle.ecr_model.specs.Scripts.{Script}
-use Rattle.ecr_model.specs.Views.{places_of}
+use Rattle.ecr_model.specs.declared.requests.refusal.Refusal.{Refusal}
+use Rattle.ecr_model.specs.declared.requests.reply.Described.{Described as Row}
+use Rattle.ecr_model.specs.declared.requests.reply.Reply.{Reply}
+use Rattle.ecr_model.specs.declared.requests.reply.Reply.TheVariants.{Refused}
+use Rattle.ecr_model.specs.requests.Actions.{Asked, cell, site, many}
+use Rattle.ecr_model.specs.registry.Contents.{AreContents}
+use Rattle.ecr_model.specs.requests.Posed.{Posed, posed_bytes, posed_script}
+use Rattle.ecr_model.specs.requests.Rendered.{site_asked}
+use Rattle.ecr_model.specs.requests.Requests.{Decided, one_script, rows_in}
+use Rattle.ecr_model.specs.registry.Scripts.{Script}
+use Rattle.ecr_model.specs.registry.Views.{places_of}
 use Rattle.ecr_desk.specs.Desks.{DeskState, Ran, Stopped}
 use Rattle.ecr_http.specs.Replies.{reply_bytes}
 use Rattle.ecr_http.specs.declared.reply.HttpReply.{HttpReply}

@@ -2,12 +2,12 @@
 ghost use Rattle.std.specs.Prelude.{◌≡◌, ◌<◌, ℕ, List, codes, length, IfOk, None, OnErr};
 ghost use Rattle.ecr_api.specs.Readings.{LoadFits, Reads, meaning};
 ghost use Rattle.ecr_http.specs.Replies.{reply_bytes};
-ghost use Rattle.ecr_model.specs.Actions.{asks, reading};
-ghost use Rattle.ecr_model.specs.Contents.{AreContents};
-ghost use Rattle.ecr_model.specs.Posed.{api, base_of, is_json_call, posed_of, posed_script, target_of};
-ghost use Rattle.ecr_model.specs.Replies.{empty_reply, is_head};
-ghost use Rattle.ecr_model.specs.Requests.{asked_script, of_site};
-ghost use Rattle.ecr_model.specs.Stream.{closes};
+ghost use Rattle.ecr_model.specs.requests.Actions.{asks, reading};
+ghost use Rattle.ecr_model.specs.registry.Contents.{AreContents};
+ghost use Rattle.ecr_model.specs.requests.Posed.{api, base_of, is_json_call, posed_of, posed_script, target_of};
+ghost use Rattle.ecr_model.specs.http.Replies.{empty_reply, is_head};
+ghost use Rattle.ecr_model.specs.requests.Requests.{asked_script, of_site};
+ghost use Rattle.ecr_model.specs.http.Stream.{closes};
 ghost use Rattle.ecr_session.specs.Serving.{Answers, cut_of, reply_bytes as sent_bytes};
 ghost use Rattle.ecr_session.specs.Turns.{IsAskable, IsReplied, RanWith, StoppedWith};
 
@@ -122,7 +122,7 @@ fn try_answer<D: AnyDesk>(
 }
 
 // Whether the request is one of the JSON API.
-#[tactic(auto, unfolding(ecr_model::specs::Posed::is_json_call))]
+#[tactic(auto, unfolding(ecr_model::specs::requests::Posed::is_json_call))]
 fn is_json_call(request: &Request) -> bool
     ensures { result ≡ is_json_call request.now }
 {

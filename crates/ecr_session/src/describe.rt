@@ -1,6 +1,6 @@
 // DescribeRepositories (Amazon ECR API Reference): one call on each repository, in the order of the reply.
 ghost use Rattle.std.specs.Prelude.{◌≡◌, ◌<◌, ◌^◌, [], None, Some, length, Contains, IfOk, OnErr};
-ghost use Rattle.ecr_model.specs.Requests.{describe_script, key_at, listed_script, named_script, next_place, one_script};
+ghost use Rattle.ecr_model.specs.requests.Requests.{describe_script, key_at, listed_script, named_script, next_place, one_script};
 ghost use Rattle.ecr_session.specs.Turns.{IsDescribed, RanWith, StoppedWith};
 
 use crate::turns::{Decided, call_at, site_at};
@@ -13,7 +13,7 @@ use ecr_model::{
 use std::alloc::Global;
 
 /// The named repositories, or else those of a page of the site's names.
-#[tactic(auto, unfolding(ecr_model::specs::Requests::describe_script))]
+#[tactic(auto, unfolding(ecr_model::specs::requests::Requests::describe_script))]
 pub(crate) fn describe<D: AnyDesk>(
     alloc: Global,
     desk: &mut D,
@@ -60,7 +60,7 @@ fn describe_named<D: AnyDesk>(
 }
 
 /// The repositories of a page of the site's names.
-#[tactic(auto, unfolding(ecr_model::specs::Requests::describe_script))]
+#[tactic(auto, unfolding(ecr_model::specs::requests::Requests::describe_script))]
 fn describe_page<D: AnyDesk>(
     alloc: Global,
     desk: &mut D,

@@ -1,6 +1,6 @@
 // Replies whose bytes are fixed, and the method of which no reply has a body.
 ghost use Rattle.std.specs.Prelude.{◌≡◌};
-ghost use Rattle.ecr_model.specs.Replies.{bad_reply, is_head, long_reply};
+ghost use Rattle.ecr_model.specs.http.Replies.{bad_reply, is_head, long_reply};
 
 use ecr_model::Request;
 

@@ -4,14 +4,14 @@ ghost use Rattle.std.specs.Char.{is_ascii_digit};
 ghost use Rattle.std.specs.List.{list_all};
 ghost use Rattle.std.specs.Option.{option_map_or};
 ghost use Rattle.std.specs.Str.{str_eq_ignore_ascii_case};
-ghost use Rattle.ecr_model.specs.Hosts.{api_host, first_with, is_port, named_site, registry_host, site_for, without_port};
+ghost use Rattle.ecr_model.specs.http.Hosts.{api_host, first_with, is_port, named_site, registry_host, site_for, without_port};
 
 use ecr_model::SiteId;
 
 /// The site that a request is for, of those that are served: the one that the value of Host names, or else the first.
 ///
 /// It takes no memory: a host is compared piece by piece with what a site's would be.
-#[tactic(auto, unfolding(ecr_model::specs::Hosts::site_for))]
+#[tactic(auto, unfolding(ecr_model::specs::http::Hosts::site_for))]
 pub(crate) fn site_for<'a>(sites: &'a [SiteId], host: Option<&[u8]>) -> &'a SiteId
     requires { 0 < length sites.now }
     ensures { result.now ≡ site_for sites.entry.now (option_map (λ value. value.now) host.entry) }
@@ -30,7 +30,7 @@ fn named_by<'a>(sites: &'a [SiteId], host: Option<&[u8]>) -> Option<&'a SiteId>
 }
 
 /// The site that the host names: the one whose registry it is, or else the first of the region whose API it is.
-#[tactic(auto, unfolding(ecr_model::specs::Hosts::named_site))]
+#[tactic(auto, unfolding(ecr_model::specs::http::Hosts::named_site))]
 fn named_site<'a>(sites: &'a [SiteId], host: &[u8]) -> Option<&'a SiteId>
     ensures { option_copied result ≡ named_site sites.entry.now host.now }
 {

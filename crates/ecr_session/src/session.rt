@@ -1,5 +1,5 @@
 // What a session keeps, and how it goes on.
-ghost use Rattle.ecr_model.specs.Sessions.{IsTime};
+ghost use Rattle.ecr_model.specs.sessions.Sessions.{IsTime};
 
 use crate::answer::answer_request;
 use crate::fixed::{bad_reply, is_head, long_reply};
@@ -25,12 +25,12 @@ pub struct Session {
 
 impl Session {
     ghost use Rattle.std.specs.Prelude.{◌≡◌, ◌+◌, ◌-◌, ◌^◌, ◌<◌, ◌≤◌, ◌≢◌, ℕ, List, [], true, false, length, Option, Some, IfOk, IfNone, OnOk, vec_len, vec_capacity};
-    ghost use Rattle.ecr_model.specs.Sessions.{Outside, SettingOf};
+    ghost use Rattle.ecr_model.specs.sessions.Sessions.{Outside, SettingOf};
     ghost use Rattle.ecr_desk.specs.Desks.{DeskState};
     ghost use Rattle.ecr_session.specs.Serving.{HasCome, GoesOn, HasEnded, HasRoom, ServesRequest, SendsLast, IsFresh, account_in, entries_in, reply_bytes};
     ghost use Rattle.ecr_http.specs.Sends.{Sends};
-    ghost use Rattle.ecr_model.specs.Replies.{is_head};
-    ghost use Rattle.ecr_model.specs.Stream.{closes};
+    ghost use Rattle.ecr_model.specs.http.Replies.{is_head};
+    ghost use Rattle.ecr_model.specs.http.Stream.{closes};
 
     /// A session that has read nothing.
     pub(crate) fn new(alloc: Global) -> Result<Session, Mem>

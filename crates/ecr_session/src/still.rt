@@ -1,8 +1,8 @@
 // A session over a desk of one caller.
 ghost use Rattle.std.specs.Prelude.{◌≡◌, ◌<◌, ◌+◌, false, length, map};
-ghost use Rattle.ecr_model.specs.SessionLaws.{all_places};
-ghost use Rattle.ecr_model.specs.Sessions.{Account, Outside, Serves, Setting};
-ghost use Rattle.ecr_model.specs.Soundness.{AreFresh};
+ghost use Rattle.ecr_model.specs.laws.SessionLaws.{all_places};
+ghost use Rattle.ecr_model.specs.sessions.Sessions.{Account, Outside, Serves, Setting};
+ghost use Rattle.ecr_model.specs.registry.Soundness.{AreFresh};
 ghost use Rattle.ecr_desk.specs.Desks.{still_of};
 ghost use Rattle.ecr_session.specs.Serving.{account_in, entries_in};
 

@@ -1,8 +1,8 @@
 // Calls on a desk, whose places are kept. The room for a place is taken before its turn.
 ghost use Rattle.std.specs.Prelude.{◌≡◌, ◌++◌, Contains, IfOk, OnErr, OnOk};
 ghost use Rattle.ecr_blob_upload.specs.Loads.{FitsCall, given};
-ghost use Rattle.ecr_model.specs.Contents.{AreContents};
-ghost use Rattle.ecr_model.specs.Requests.{call_script, site_script};
+ghost use Rattle.ecr_model.specs.registry.Contents.{AreContents};
+ghost use Rattle.ecr_model.specs.requests.Requests.{call_script, site_script};
 ghost use Rattle.ecr_session.specs.Turns.{RanWith, StoppedWith};
 
 use ecr_blob_upload::{Blob, Load};

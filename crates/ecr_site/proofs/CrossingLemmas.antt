@@ -2,7 +2,7 @@
 use denote.Param.Send.{IsSend, sendable}
 use Rattle.std.proofs.Crossing.{crosses}
 use Rattle.std.proofs.MapsCrossing as maps
-use Rattle.ecr_model.proofs.CrossingLemmas.{Line-send, Name-send, SiteId-send}
+use Rattle.ecr_model.proofs.lemmas.registry.CrossingLemmas.{Line-send, Name-send, SiteId-send}
 use Rattle.ecr_site.specs.contracts.state.SiteState as SiteState
 
 pub SiteState-send : IsSend SiteState.the_row

@@ -7,15 +7,15 @@ use Rattle.std.proofs.lemmas.Bool.{cond-true, cond-false, cond_both, lt-ltb, le-
 use Rattle.std.proofs.lemmas.Bool.Decides.{same_from_decides, Decides-like}
 use Rattle.std.proofs.lemmas.Map.Text.{is_eq-slice_cmp}
 use Rattle.std.proofs.lemmas.Slice.Eq.{bytes_eq-Decides}
-use Rattle.ecr_model.specs.declared.directory.Directory.{Directory}
-use Rattle.ecr_model.specs.declared.directory.Registered.{Registered}
-use Rattle.ecr_model.specs.declared.directory.Registered.TheVariants.{New, Known, Full}
-use Rattle.ecr_model.specs.declared.journal.Line.{Line}
+use Rattle.ecr_model.specs.declared.registry.directory.Directory.{Directory}
+use Rattle.ecr_model.specs.declared.registry.directory.Registered.{Registered}
+use Rattle.ecr_model.specs.declared.registry.directory.Registered.TheVariants.{New, Known, Full}
+use Rattle.ecr_model.specs.declared.registry.journal.Line.{Line}
 use Rattle.ecr_model.specs.declared.names.Name.{Name}
-use Rattle.ecr_model.specs.Directories.{SiteFrame, name_order, first_directory, is_registered, registration, registered, with_name, after_line, replay, line_of}
-use Rattle.ecr_model.specs.Journals as journals
-use Rattle.ecr_model.specs.Journals.{past_from, past}
-use Rattle.ecr_model.proofs.JournalLemmas.{replay_goes_on, a_sound_journal_grows}
+use Rattle.ecr_model.specs.registry.Directories.{SiteFrame, name_order, first_directory, is_registered, registration, registered, with_name, after_line, replay, line_of}
+use Rattle.ecr_model.specs.registry.Journals as journals
+use Rattle.ecr_model.specs.registry.Journals.{past_from, past}
+use Rattle.ecr_model.proofs.lemmas.registry.JournalLemmas.{replay_goes_on, a_sound_journal_grows}
 use Rattle.ecr_site.specs.States.{SiteJournal, frame_of_journal, directory_of, with_line, entered, after_register, IsKept}
 
 -- the order of the two doesn't matter

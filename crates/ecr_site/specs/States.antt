@@ -1,15 +1,15 @@
 -- A site's directory as contracts see it: its journal, and what is fixed throughout. Of this registry: docs/DECISIONS.md,
 -- "Directories".
 use Rattle.std.specs.Prelude.{◌≡◌, ℕ, List, [], ◌∷◌, ◌++◌}
-use Rattle.ecr_model.specs.declared.call.SiteCall.{SiteCall}
-use Rattle.ecr_model.specs.declared.directory.Directory.{Directory}
-use Rattle.ecr_model.specs.declared.directory.Registered.{Registered}
-use Rattle.ecr_model.specs.declared.directory.Registered.TheVariants.{New, Known, Full}
-use Rattle.ecr_model.specs.declared.journal.Limits.{Limits}
-use Rattle.ecr_model.specs.declared.journal.Line.{Line}
+use Rattle.ecr_model.specs.declared.requests.call.SiteCall.{SiteCall}
+use Rattle.ecr_model.specs.declared.registry.directory.Directory.{Directory}
+use Rattle.ecr_model.specs.declared.registry.directory.Registered.{Registered}
+use Rattle.ecr_model.specs.declared.registry.directory.Registered.TheVariants.{New, Known, Full}
+use Rattle.ecr_model.specs.declared.registry.journal.Limits.{Limits}
+use Rattle.ecr_model.specs.declared.registry.journal.Line.{Line}
 use Rattle.ecr_model.specs.declared.names.Name.{Name}
 use Rattle.ecr_model.specs.declared.names.SiteId.{SiteId}
-use Rattle.ecr_model.specs.Directories.{SiteFrame, SiteOutcome, registration, replay, site_step, line_of, IsSound}
+use Rattle.ecr_model.specs.registry.Directories.{SiteFrame, SiteOutcome, registration, replay, site_step, line_of, IsSound}
 
 -- a site's journal, the first line first, and the values that are fixed throughout it
 pub record SiteJournal : Type 0 where

@@ -1,6 +1,6 @@
 // The reply to the call for a page of names.
 ghost use Rattle.std.specs.Prelude.{◌≡◌, ◌+◌, nat_lt, IfOk};
-ghost use Rattle.ecr_model.specs.Directories.{page_reply};
+ghost use Rattle.ecr_model.specs.registry.Directories.{page_reply};
 ghost use Rattle.ecr_site.specs.States.{directory_of};
 
 use crate::SiteState;

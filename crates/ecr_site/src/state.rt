@@ -1,8 +1,8 @@
 // A site's directory, and its changes.
 ghost use Rattle.std.specs.Prelude.{◌≡◌, ◌<◌, ◌≤◌, ◌+◌, [], None, IfOk, OnErr, OnOk, length, take, drop};
-ghost use Rattle.ecr_model.specs.Directories.{is_registered, line_of, names_of, IsSound};
-ghost use Rattle.ecr_model.specs.Journals.{past};
-ghost use Rattle.ecr_model.specs.declared.directory.Registered.TheVariants.{New};
+ghost use Rattle.ecr_model.specs.registry.Directories.{is_registered, line_of, names_of, IsSound};
+ghost use Rattle.ecr_model.specs.registry.Journals.{past};
+ghost use Rattle.ecr_model.specs.declared.registry.directory.Registered.TheVariants.{New};
 ghost use Rattle.ecr_site.specs.States.{after_register, directory_of, frame_of_journal, outcome_in, registration_in, with_line};
 
 use crate::page::page_of;
@@ -106,7 +106,7 @@ impl SiteState {
     }
 
     /// What becomes of the name where the limit is reached: it is known, or one too many.
-    #[tactic(auto, unfolding(ecr_model::specs::Directories::registration))]
+    #[tactic(auto, unfolding(ecr_model::specs::registry::Directories::registration))]
     fn beyond(&self, name: &Name) -> Registered
         requires { self.now.limits.names ≤ length (directory_of self.now).names }
         ensures { result ≡ registration_in self.now name.now }

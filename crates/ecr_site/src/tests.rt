@@ -1,5 +1,5 @@
 ghost use Rattle.std.specs.Prelude.{◌≡◌, ◌≤◌, [], IfOk};
-ghost use Rattle.ecr_model.specs.Journals.{past};
+ghost use Rattle.ecr_model.specs.registry.Journals.{past};
 
 use crate::{Registered, SiteState};
 use ecr_model::{Limits, Name, SharedText, SiteId};

@@ -4,17 +4,17 @@ use mathlib.Core.Option.{some, none}
 use mathlib.Core.Option as maybe
 use lib.ListN.{get_elem?}
 use Rattle.atomic_table.proofs.Lists.{set_else, at_longer}
-use Rattle.ecr_model.specs.declared.journal.Line.{Line}
-use Rattle.ecr_model.specs.declared.journal.Frame.{Frame}
+use Rattle.ecr_model.specs.declared.registry.journal.Line.{Line}
+use Rattle.ecr_model.specs.declared.registry.journal.Frame.{Frame}
 use Rattle.ecr_turn.specs.declared.board.View.{View}
 use Rattle.ecr_turn.specs.declared.board.Stage.TheVariants.{Idle, Named, Joined}
-use Rattle.ecr_model.specs.Growth.{Each, Grows, Follows}
+use Rattle.ecr_model.specs.registry.Growth.{Each, Grows, Follows}
 use Rattle.ecr_turn.specs.Journals.{longer_of}
 use Rattle.ecr_turn.specs.Turns.{ticket_of, named_of, in_turn, has_recorded, is_live, joined_past, joined_seen, HasTicket, HasNumber, HasSeen, SomeOne}
 use Rattle.ecr_turn.specs.Rule.{Suits, Order}
 use Rattle.ecr_turn.specs.Steps.{naming, settled, newborn, number_of, joining, spent, merged}
 use Rattle.ecr_turn.proofs.Views.{off, same_some, none_some, set_at, set_each, One-set, One-kept, snoc_each, One-snoc, NoneOf-shorter}
-use Rattle.ecr_model.proofs.GrowthLemmas.{Each-weaker, Grows-unnamed, Follows-first, Grows-follows, Each-left}
+use Rattle.ecr_model.proofs.lemmas.registry.GrowthLemmas.{Each-weaker, Grows-unnamed, Follows-first, Grows-follows, Each-left}
 use Rattle.ecr_turn.proofs.Journals.{longer_of-nil, longer_of-keeps, Grows-merged, Grows-longer_of, Follows-longer_of, max_least}
 use Rattle.ecr_turn.proofs.Orders.{NoneOf-before, numbers_back, Some-set, still_seen, given_over, rests}
 

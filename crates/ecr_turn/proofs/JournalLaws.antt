@@ -1,12 +1,12 @@
 -- Laws of what stands in journals below a ticket, and of a caller's own lines.
 use Rattle.std.proofs.Common.{◌≡◌, ◌≢◌, ℕ, ◌<◌, ◌≤◌, Bool, cond, List, [], ◌∷◌, ◌++◌, refl, ap, ◌∙◌, ⊎_elim, inl, inr, arith, eq-eqb, ne_eqb, nat_lt, ◌==◌, append-nil, le-ltb, lt-ltb}
 use Rattle.std.proofs.lemmas.List.Elements.{filter-append}
-use Rattle.ecr_model.specs.declared.journal.Line.{Line}
-use Rattle.ecr_model.specs.Journals.{below}
-use Rattle.ecr_model.specs.Growth.{Each, Rises}
+use Rattle.ecr_model.specs.declared.registry.journal.Line.{Line}
+use Rattle.ecr_model.specs.registry.Journals.{below}
+use Rattle.ecr_model.specs.registry.Growth.{Each, Rises}
 use Rattle.ecr_turn.specs.Journals.{of_caller}
 use Rattle.ecr_turn.specs.Laws.{WhatStoodStays, OthersAddNoneOfMine, ATurnAddsItsOwn}
-use Rattle.ecr_model.proofs.GrowthLemmas.{Rises-each}
+use Rattle.ecr_model.proofs.lemmas.registry.GrowthLemmas.{Rises-each}
 
 below-none : (ticket past : ℕ) (ls : List Line) → ticket ≤ past → Each (λ l. past ≤ l.ticket) ls → below ticket ls ≡ []
 below-none ticket past [] le all = refl

@@ -1,10 +1,10 @@
 -- Laws of journals: a journal that may follow, and the longer of two.
 use Rattle.std.proofs.Common.{◌≡◌, ◌≢◌, ℕ, ◌+◌, ◌≤◌, true, false, ◌⊎◌, eqb, eq-eqb, ne_eqb, ⊎_elim, inl, inr, List, [], ◌∷◌, ◌++◌, length, refl, sym, ap, ◌∙◌, subst, arith, append-nil, length-append, max}
-use Rattle.ecr_model.specs.declared.journal.Line.{Line}
+use Rattle.ecr_model.specs.declared.registry.journal.Line.{Line}
 use mathlib.Core.Bool.{not}
-use Rattle.ecr_model.specs.Growth.{Each, Grows, Follows}
+use Rattle.ecr_model.specs.registry.Growth.{Each, Grows, Follows}
 use Rattle.ecr_turn.specs.Journals.{IsBeginning, MayFollow, longer_of}
-use Rattle.ecr_model.proofs.GrowthLemmas.{Each-weaker, Each-right, Each-left, Each-both}
+use Rattle.ecr_model.proofs.lemmas.registry.GrowthLemmas.{Each-weaker, Each-right, Each-left, Each-both}
 use Rattle.ecr_turn.proofs.Views.{off}
 
 pub max_least : (a b c : ℕ) → a ≤ c → b ≤ c → max a b ≤ c

@@ -9,17 +9,17 @@ use lib.Seq.{set-get_or}
 use prog.Atomic.{either}
 use Rattle.atomic_table.specs.Table.{State, Me, step, Act, keeps, takes, gives, Valid, put_back, rest, stepped, carried_after, Allows, Splits, Joins, opening}
 use Rattle.atomic_table.proofs.Lists.{set_again, exchanged}
-use Rattle.ecr_model.specs.declared.journal.Line.{Line}
-use Rattle.ecr_model.specs.declared.journal.Frame.{Frame}
+use Rattle.ecr_model.specs.declared.registry.journal.Line.{Line}
+use Rattle.ecr_model.specs.declared.registry.journal.Frame.{Frame}
 use Rattle.ecr_turn.specs.declared.board.View.{View}
 use Rattle.ecr_turn.specs.declared.board.Stage.{Stage}
 use Rattle.ecr_turn.specs.declared.board.Stage.TheVariants.{Idle, Waits, Found, Holds, Named, Joined}
-use Rattle.ecr_model.specs.Growth.{Each}
+use Rattle.ecr_model.specs.registry.Growth.{Each}
 use Rattle.ecr_turn.specs.Turns.{in_turn, has_learned, found_seen, HasTicket, One, HasNumber}
 use Rattle.ecr_turn.specs.Rule.{Order, Suits, Kept, newcomer}
 use Rattle.ecr_turn.specs.Steps.{waiting, finding, holding, having_recorded, gone_by, drew, looked, learned, recorded, passed_on, naming, settled, newborn, joining, spent, merged, named, took_in}
 use Rattle.ecr_turn.proofs.Views.{none_some, same_some, off}
-use Rattle.ecr_model.proofs.GrowthLemmas.{Grows-none, Follows-first}
+use Rattle.ecr_model.proofs.lemmas.registry.GrowthLemmas.{Grows-none, Follows-first}
 use Rattle.ecr_turn.proofs.TurnOrders.{draws, finds, learns, records, passes}
 use Rattle.ecr_turn.proofs.CallerOrders.{names, splits, joins, takes_in}
 

@@ -6,8 +6,8 @@ use mathlib.Core.Option as maybe
 use native.Mathlib.Decide.{ℕ_discrete}
 use lib.ListN.{get_elem?}
 use Rattle.atomic_table.proofs.Lists.{set_else}
-use Rattle.ecr_model.specs.declared.journal.Line.{Line}
-use Rattle.ecr_model.specs.declared.journal.Frame.{Frame}
+use Rattle.ecr_model.specs.declared.registry.journal.Line.{Line}
+use Rattle.ecr_model.specs.declared.registry.journal.Frame.{Frame}
 use Rattle.ecr_turn.specs.declared.board.View.{View}
 use Rattle.ecr_turn.specs.declared.board.Stage.{Stage}
 use Rattle.ecr_turn.specs.declared.board.Stage.TheVariants.{Idle, Waits, Found, Holds, Recorded, Named, Joined, Spent}

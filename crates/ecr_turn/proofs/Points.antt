@@ -6,8 +6,8 @@ use mathlib.Core.Option as maybe
 use native.Mathlib.Decide.{ℕ_discrete}
 use lib.ListN.{get_elem?}
 use Rattle.atomic_table.specs.Table.{State}
-use Rattle.ecr_model.specs.declared.journal.Line.{Line}
-use Rattle.ecr_model.specs.declared.journal.Frame.{Frame}
+use Rattle.ecr_model.specs.declared.registry.journal.Line.{Line}
+use Rattle.ecr_model.specs.declared.registry.journal.Frame.{Frame}
 use Rattle.ecr_turn.specs.declared.board.View.{View}
 use Rattle.ecr_turn.specs.declared.board.Stage.{Stage}
 use Rattle.ecr_turn.specs.declared.board.Stage.TheVariants.{Idle, Waits, Found, Holds, Recorded, Named, Joined, Spent}
@@ -15,7 +15,7 @@ use Rattle.ecr_turn.specs.Turns.{named_of, in_turn, has_recorded, is_live, HasTi
 use Rattle.ecr_turn.specs.Rule.{NoneOf, Order, Kept}
 use Rattle.ecr_turn.specs.Laws.{Shows}
 use Rattle.ecr_turn.proofs.Views.{off, turn_ticket}
-use Rattle.ecr_model.proofs.GrowthLemmas.{Each-weaker, Rises-each}
+use Rattle.ecr_model.proofs.lemmas.registry.GrowthLemmas.{Each-weaker, Rises-each}
 use Rattle.ecr_turn.proofs.Journals.{ordered}
 
 none_more : (test : Stage → Bool) (x : View) (xs : List View) → test x.stage ≡ false → NoneOf test xs → (j : ℕ) (v : View) → get_elem? (x ∷ xs) j ≡ some v → test v.stage ≡ false

@@ -1,6 +1,6 @@
 -- What a register comes to.
 use Rattle.std.proofs.Common.{◌≡◌, ℕ, List, [], ◌∷◌, ◌++◌, refl}
-use Rattle.ecr_model.specs.declared.journal.Line.{Line}
+use Rattle.ecr_model.specs.declared.registry.journal.Line.{Line}
 use Rattle.ecr_turn.specs.Register.{replayed}
 
 pub replayed-snoc : (n : ℕ) (ls : List Line) (l : Line) → replayed n (ls ++ l ∷ []) ≡ l.entry.moment

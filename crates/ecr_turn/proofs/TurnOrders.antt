@@ -5,16 +5,16 @@ use mathlib.Core.Option.{some, none}
 use mathlib.Core.Option as maybe
 use native.Mathlib.Decide.{ℕ_discrete}
 use lib.ListN.{get_elem?}
-use Rattle.ecr_model.specs.declared.journal.Line.{Line}
-use Rattle.ecr_model.specs.declared.journal.Frame.{Frame}
+use Rattle.ecr_model.specs.declared.registry.journal.Line.{Line}
+use Rattle.ecr_model.specs.declared.registry.journal.Frame.{Frame}
 use Rattle.ecr_turn.specs.declared.board.View.{View}
 use Rattle.ecr_turn.specs.declared.board.Stage.TheVariants.{Idle, Waits, Found, Holds}
-use Rattle.ecr_model.specs.Growth.{Rises, Grows}
+use Rattle.ecr_model.specs.registry.Growth.{Rises, Grows}
 use Rattle.ecr_turn.specs.Turns.{ticket_of, in_turn, has_recorded, is_live, has_learned, is_found, found_seen, joined_past, joined_seen, HasTicket, HasNumber, HasSeen}
 use Rattle.ecr_turn.specs.Rule.{NoneOf, Suits, Order}
 use Rattle.ecr_turn.specs.Steps.{waiting, finding, holding, having_recorded, gone_by}
 use Rattle.ecr_turn.proofs.Views.{off, same_some, none_some, recorded_turn, learned_turn, found_turn, set_at, same_view, set_each, One-set, One-kept}
-use Rattle.ecr_model.proofs.GrowthLemmas.{Each-snoc, Follows-first, Follows-snoc, Rises-higher, Rises-snoc, Rises-length, Grows-none, Grows-snoc}
+use Rattle.ecr_model.proofs.lemmas.registry.GrowthLemmas.{Each-snoc, Follows-first, Follows-snoc, Rises-higher, Rises-snoc, Rises-length, Grows-none, Grows-snoc}
 use Rattle.ecr_turn.proofs.Journals.{longer_of-nil}
 use Rattle.ecr_turn.proofs.Orders.{turn_live, NoneOf-before, numbers_back, Some-set, still_seen, alone}
 

@@ -1,7 +1,7 @@
 -- Journals that are longer than others. Of this registry: docs/DEFINITIONS.md, "Turns".
 use Rattle.std.specs.Prelude.{◌≡◌, ◌⊎◌, ℕ, ◌==◌, List, [], ◌∷◌, ◌++◌, filter}
-use Rattle.ecr_model.specs.declared.journal.Line.{Line}
-use Rattle.ecr_model.specs.Growth.{Each}
+use Rattle.ecr_model.specs.declared.registry.journal.Line.{Line}
+use Rattle.ecr_model.specs.registry.Growth.{Each}
 
 -- the later journal begins with the earlier one
 abbrev pub IsBeginning : List Line → List Line → Type 0

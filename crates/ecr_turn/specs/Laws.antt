@@ -2,11 +2,11 @@
 use Rattle.std.specs.Prelude.{◌≡◌, ◌⊎◌, ℕ, ◌<◌, ◌≤◌, List, [], ◌∷◌, ◌++◌, Option}
 use mathlib.Core.Option as maybe
 use Rattle.atomic_table.specs.Table.{State}
-use Rattle.ecr_model.specs.declared.journal.Line.{Line}
-use Rattle.ecr_model.specs.declared.journal.Frame.{Frame}
+use Rattle.ecr_model.specs.declared.registry.journal.Line.{Line}
+use Rattle.ecr_model.specs.declared.registry.journal.Frame.{Frame}
 use Rattle.ecr_turn.specs.declared.board.View.{View}
-use Rattle.ecr_model.specs.Journals.{below}
-use Rattle.ecr_model.specs.Growth.{Grows, Follows}
+use Rattle.ecr_model.specs.registry.Journals.{below}
+use Rattle.ecr_model.specs.registry.Growth.{Grows, Follows}
 use Rattle.ecr_turn.specs.Journals.{MayFollow, of_caller}
 use Rattle.ecr_turn.specs.Passes.{Known, IsNewCaller}
 use Rattle.ecr_turn.specs.Turns.{Numbers, SevenPoints}

@@ -1,9 +1,9 @@
 -- What contracts see of a turnstile, of a pass and of a turn.
 use Rattle.std.specs.Prelude.{◌≡◌, ◌≤◌, ◌+◌, ℕ, List, [], Option, Some, None}
 use Rattle.atomic_table.specs.Seated.{TableId}
-use Rattle.ecr_model.specs.declared.journal.Line.{Line}
-use Rattle.ecr_model.specs.declared.journal.Frame.{Frame}
-use Rattle.ecr_model.specs.declared.journal.CellKey.TheVariants.{Directory}
+use Rattle.ecr_model.specs.declared.registry.journal.Line.{Line}
+use Rattle.ecr_model.specs.declared.registry.journal.Frame.{Frame}
+use Rattle.ecr_model.specs.declared.registry.journal.CellKey.TheVariants.{Directory}
 
 -- which turnstile it is, and what is fixed throughout its journal
 pub record Gate : Type 0 where

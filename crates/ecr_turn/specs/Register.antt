@@ -1,6 +1,6 @@
 -- A register, the example of this crate: a number that is set, with a journal of its settings.
 use Rattle.std.specs.Prelude.{ℕ, List, [], ◌∷◌}
-use Rattle.ecr_model.specs.declared.journal.Line.{Line}
+use Rattle.ecr_model.specs.declared.registry.journal.Line.{Line}
 
 -- the value of a register that was at n, after these lines: each sets it
 abbrev pub replayed : ℕ → List Line → ℕ

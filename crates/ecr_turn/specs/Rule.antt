@@ -3,12 +3,12 @@ use Rattle.std.specs.Prelude.{◌≡◌, ◌≢◌, ℕ, suc, ◌<◌, ◌≤◌
 use mathlib.Core.Option.{some, none}
 use mathlib.Core.Option as maybe
 use Rattle.atomic_table.specs.Table.{State}
-use Rattle.ecr_model.specs.declared.journal.Line.{Line}
-use Rattle.ecr_model.specs.declared.journal.Frame.{Frame}
+use Rattle.ecr_model.specs.declared.registry.journal.Line.{Line}
+use Rattle.ecr_model.specs.declared.registry.journal.Frame.{Frame}
 use Rattle.ecr_turn.specs.declared.board.View.{View}
 use Rattle.ecr_turn.specs.declared.board.Stage.{Stage}
 use Rattle.ecr_turn.specs.declared.board.Stage.TheVariants.{Idle}
-use Rattle.ecr_model.specs.Growth.{Each, Rises, Grows, Follows}
+use Rattle.ecr_model.specs.registry.Growth.{Each, Rises, Grows, Follows}
 use Rattle.ecr_turn.specs.Turns.{named_of, in_turn, has_learned, is_found, found_seen, has_recorded, is_live, joined_past, joined_seen, HasTicket, HasNumber, HasSeen, Every, SomeOne, One}
 
 -- the first pass: it has seen nothing

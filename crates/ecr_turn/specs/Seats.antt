@@ -2,11 +2,11 @@
 use Rattle.std.specs.Prelude.{◌≡◌, ℕ, ◌≤◌, List, [], ◌∷◌, ◌++◌, Option, Some, None, Bool, true, false}
 use Rattle.atomic_table.specs.Seated.{TableId}
 use Rattle.atomic_table.specs.declared.shared.Seat.{Seat}
-use Rattle.ecr_model.specs.declared.journal.Line.{Line}
-use Rattle.ecr_model.specs.declared.journal.Frame.{Frame}
+use Rattle.ecr_model.specs.declared.registry.journal.Line.{Line}
+use Rattle.ecr_model.specs.declared.registry.journal.Frame.{Frame}
 use Rattle.ecr_turn.specs.declared.board.View.{View}
 use Rattle.ecr_turn.specs.declared.board.Stage.TheVariants.{Idle, Holds}
-use Rattle.ecr_model.specs.Growth.{Grows, Rises}
+use Rattle.ecr_model.specs.registry.Growth.{Grows, Rises}
 use Rattle.ecr_turn.specs.Turns.{has_learned, HasTicket}
 use Rattle.ecr_turn.specs.Passes.{Known}
 use Rattle.ecr_turn.specs.Steps.{finding, holding}

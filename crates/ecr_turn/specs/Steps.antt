@@ -1,12 +1,12 @@
 -- What each step tells the one who makes it.
 use Rattle.std.specs.Prelude.{◌≡◌, ◌≢◌, ℕ, suc, max, ◌≤◌, List, [], ◌∷◌, Option, Some}
 use Rattle.atomic_table.specs.Table.{Me, Step}
-use Rattle.ecr_model.specs.declared.journal.Line.{Line}
-use Rattle.ecr_model.specs.declared.journal.Frame.{Frame}
+use Rattle.ecr_model.specs.declared.registry.journal.Line.{Line}
+use Rattle.ecr_model.specs.declared.registry.journal.Frame.{Frame}
 use Rattle.ecr_turn.specs.declared.board.View.{View}
 use Rattle.ecr_turn.specs.declared.board.Stage.TheVariants.{Idle, Waits, Found, Holds, Recorded, Named, Joined, Spent}
 use Rattle.ecr_turn.specs.declared.board.Stage.{Stage}
-use Rattle.ecr_model.specs.Growth.{Each, Grows, Follows, Rises}
+use Rattle.ecr_model.specs.registry.Growth.{Each, Grows, Follows, Rises}
 use Rattle.ecr_turn.specs.Journals.{longer_of}
 use Rattle.ecr_turn.specs.Turns.{HasTicket, joined_past, joined_seen}
 use Rattle.ecr_turn.specs.Passes.{no_frame}

@@ -1,7 +1,7 @@
 // What a state behind a turnstile has to tell.
 ghost use Rattle.std.specs.Prelude.{◌≡◌, List, length};
-ghost use Rattle.ecr_model.specs.declared.journal.Line.{Line};
-ghost use Rattle.ecr_model.specs.declared.journal.Frame.{Frame};
+ghost use Rattle.ecr_model.specs.declared.registry.journal.Line.{Line};
+ghost use Rattle.ecr_model.specs.declared.registry.journal.Frame.{Frame};
 
 /// A state with a journal.
 pub trait Journal {

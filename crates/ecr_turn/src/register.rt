@@ -1,9 +1,9 @@
 // The example of this crate, which its tests run: a register over a turnstile. What `enter` and `leave` promise is
 // enough for an answer "as at this ticket".
 ghost use Rattle.std.specs.Prelude.{◌≡◌, ◌≤◌, ◌+◌, ◌++◌, ◌∷◌, [], List, OnOk, OnErr};
-ghost use Rattle.ecr_model.specs.declared.journal.Line.{Line as SpecLine};
-ghost use Rattle.ecr_model.specs.Journals.{below};
-ghost use Rattle.ecr_model.specs.Growth.{Grows, Follows};
+ghost use Rattle.ecr_model.specs.declared.registry.journal.Line.{Line as SpecLine};
+ghost use Rattle.ecr_model.specs.registry.Journals.{below};
+ghost use Rattle.ecr_model.specs.registry.Growth.{Grows, Follows};
 ghost use Rattle.ecr_turn.specs.Passes.{IsSamePass, no_frame};
 ghost use Rattle.ecr_turn.specs.Register.{value_of};
 
@@ -22,7 +22,7 @@ pub(crate) struct Register {
 
 impl Model for Register {
     ghost use Rattle.std.specs.Prelude.{◌≡◌, List};
-    ghost use Rattle.ecr_model.specs.declared.journal.Line.{Line};
+    ghost use Rattle.ecr_model.specs.declared.registry.journal.Line.{Line};
     ghost use Rattle.ecr_turn.specs.Register.{value_of};
 
     ghost Value = { List Line };

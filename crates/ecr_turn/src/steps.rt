@@ -1,7 +1,7 @@
 // The steps of a pass, on the table below a turnstile.
 ghost use Rattle.std.specs.Prelude.{◌≡◌, ◌≤◌, ◌+◌, ◌≢◌, ◌⊎◌, max, [], ◌∷◌, IfOk, IfErr, Some};
 ghost use Rattle.ecr_turn.specs.declared.board.Stage.TheVariants.{Idle, Waits};
-ghost use Rattle.ecr_model.specs.Growth.{Each, Grows, Follows};
+ghost use Rattle.ecr_model.specs.registry.Growth.{Each, Grows, Follows};
 ghost use Rattle.ecr_turn.specs.Journals.{IsBeginning, longer_of};
 ghost use Rattle.ecr_turn.specs.Steps.{waiting, naming};
 ghost use Rattle.ecr_turn.specs.Seats.{Lone, IsOf, IsIdle, IsSameSeat, IsBack, Finds, Takes, Sees, IsSettled, known_of};

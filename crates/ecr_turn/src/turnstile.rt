@@ -1,7 +1,7 @@
 // Entering, and leaving.
 ghost use Rattle.std.specs.Prelude.{◌≡◌, ◌<◌, ◌≤◌, ◌+◌, ◌≢◌, ◌⊎◌, max, [], ◌∷◌, IfOk, IfErr, length, None};
 ghost use Rattle.ecr_turn.specs.declared.board.Stage.TheVariants.{Holds};
-ghost use Rattle.ecr_model.specs.Growth.{Each, Grows, Follows, Rises};
+ghost use Rattle.ecr_model.specs.registry.Growth.{Each, Grows, Follows, Rises};
 ghost use Rattle.ecr_turn.specs.Journals.{MayFollow, IsBeginning, longer_of};
 ghost use Rattle.ecr_turn.specs.Passes.{first_pass, IsSamePass, IsAsWise, IsNewCaller};
 ghost use Rattle.ecr_turn.specs.Seats.{known_of};

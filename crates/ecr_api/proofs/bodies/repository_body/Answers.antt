@@ -3,7 +3,7 @@ use Rattle.json.specs.Token as token
 use Rattle.serde_json.specs.Data.{Data, object, member, no_members}
 use Rattle.ecr_model.specs.declared.names.RepoKey.{RepoKey}
 use Rattle.ecr_model.specs.declared.names.SiteId.{SiteId}
-use Rattle.ecr_model.specs.Rendered.{key_asked, repository_data}
+use Rattle.ecr_model.specs.requests.Rendered.{key_asked, repository_data}
 use Rattle.ecr_api.specs.Readings.{meaning}
 use Rattle.ecr_api.specs.Writings.{data_tokens}
 use Rattle.ecr_api.proofs.TokenLemmas.{joined}

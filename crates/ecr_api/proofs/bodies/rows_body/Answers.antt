@@ -1,7 +1,7 @@
 use Rattle.std.proofs.Common.{◌≡◌, ◌∙◌, [], ◌∷◌, ◌++◌, codes, ap, sym, append_assoc}
 use Rattle.json.specs.Token as token
 use Rattle.serde_json.specs.Data.{Data, Items, Members, array, object, member, no_members}
-use Rattle.ecr_model.specs.Rendered.{rows_data, site_asked, with_token}
+use Rattle.ecr_model.specs.requests.Rendered.{rows_data, site_asked, with_token}
 use Rattle.ecr_api.specs.Readings.{meaning}
 use Rattle.ecr_api.specs.Writings.{data_tokens, member_tokens, rest_tokens}
 use Rattle.ecr_api.proofs.TokenLemmas.{joined}

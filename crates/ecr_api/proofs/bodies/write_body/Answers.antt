@@ -1,7 +1,7 @@
 use Rattle.std.proofs.Common.{◌≡◌, None, Some, IfOk, ap, sym, subst, List, ℕ}
 use Rattle.serde_json.specs.Written.{compact_text}
-use Rattle.ecr_model.specs.Refusals.{refusal_body}
-use Rattle.ecr_model.specs.Rendered.{key_asked, reply_data}
+use Rattle.ecr_model.specs.requests.Refusals.{refusal_body}
+use Rattle.ecr_model.specs.requests.Rendered.{key_asked, reply_data}
 use Rattle.ecr_api.specs.Readings.{meaning}
 use Rattle.ecr_api.proofs.TokenLemmas.{refusal_data-no_upload}
 use Rattle.ecr_api.proofs.bodies.write_body.Goals as goal

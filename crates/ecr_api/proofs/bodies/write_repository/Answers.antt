@@ -2,8 +2,8 @@ use Rattle.std.proofs.Common.{◌≡◌, ◌∙◌, [], ◌∷◌, ◌++◌, cod
 use Rattle.std.proofs.lemmas.Result.{on_ok_weaker}
 use Rattle.json.specs.Token as token
 use Rattle.ecr_model.specs.declared.names.RepoKey.{RepoKey}
-use Rattle.ecr_model.specs.Rendered.{repository_data, mutability_text}
-use Rattle.ecr_model.specs.Sites.{arn_of, uri_of, utf8_or_empty}
+use Rattle.ecr_model.specs.requests.Rendered.{repository_data, mutability_text}
+use Rattle.ecr_model.specs.names.Sites.{arn_of, uri_of, utf8_or_empty}
 use Rattle.ecr_api.proofs.TokenLemmas.{joined, text_member}
 use Rattle.ecr_api.proofs.bodies.write_repository.Goals as goal
 

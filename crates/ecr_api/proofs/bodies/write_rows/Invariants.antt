@@ -1,5 +1,5 @@
 use Rattle.std.proofs.Common.{◌≡◌, ◌++◌, drop}
-use Rattle.ecr_model.specs.Rendered.{rows_data}
+use Rattle.ecr_model.specs.requests.Rendered.{rows_data}
 use Rattle.ecr_api.specs.Writings.{rest_tokens}
 use Rattle.ecr_api.proofs.bodies.write_rows.Given as goal
 

@@ -1,7 +1,7 @@
 use Rattle.std.proofs.Common.{◌≡◌, Some, map, option_map, sym, ap, subst, ◌∙◌}
 use Rattle.serde_json.specs.View.{view}
-use Rattle.ecr_model.specs.Actions.{Reading, reading, action_reading, action_of}
-use Rattle.ecr_model.specs.Documents.{document}
+use Rattle.ecr_model.specs.requests.Actions.{Reading, reading, action_reading, action_of}
+use Rattle.ecr_model.specs.documents.Documents.{document}
 use Rattle.ecr_api.specs.Readings.{Reads}
 use Rattle.ecr_api.proofs.ThinLemmas.{body_reading-thin}
 use Rattle.ecr_api.proofs.read.read_call_in.Goals as goal

@@ -3,8 +3,8 @@ use Rattle.serde_json.specs.Data.{Data}
 use Rattle.serde_json.specs.Read.{read}
 use Rattle.serde_json.specs.View.{view}
 use Rattle.ecr_json.specs.Thin.{IsThinOf}
-use Rattle.ecr_model.specs.Documents.{document}
-use Rattle.ecr_model.proofs.DocumentLemmas.{document-IsUtf8}
+use Rattle.ecr_model.specs.documents.Documents.{document}
+use Rattle.ecr_model.proofs.lemmas.documents.DocumentLemmas.{document-IsUtf8}
 use Rattle.ecr_api.proofs.read.read_document.Goals as goal
 
 -- the text is the body

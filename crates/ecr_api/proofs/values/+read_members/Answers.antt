@@ -1,6 +1,6 @@
 use Rattle.std.proofs.Common.{◌≡◌, ◌∙◌, ◌++◌, List, Option, Some, None, IfOk, if◌then◌else◌, length, slice_range, option_map, sym, ap, subst}
 use Rattle.serde_json.specs.View.{view}
-use Rattle.ecr_model.specs.Members.{Valued, all_typed}
+use Rattle.ecr_model.specs.requests.Members.{Valued, all_typed}
 use Rattle.ecr_api.specs.Values.{row_of, valued_of}
 use Rattle.ecr_api.proofs.ValueLemmas.{all_typed-first}
 use Rattle.ecr_api.proofs.values.+read_members.Goals as goal

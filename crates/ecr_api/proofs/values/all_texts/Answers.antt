@@ -1,5 +1,5 @@
 use Rattle.std.proofs.Common.{option_map, sym, ap}
-use Rattle.ecr_model.specs.Members.{texts}
+use Rattle.ecr_model.specs.requests.Members.{texts}
 use Rattle.ecr_api.proofs.ValueLemmas.{all_texts-items_view}
 use Rattle.ecr_api.proofs.values.all_texts.Goals as goal
 

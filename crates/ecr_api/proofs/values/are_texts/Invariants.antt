@@ -1,6 +1,6 @@
 use Rattle.std.proofs.Common.{◌≡◌, drop}
 use Rattle.serde_json.specs.View.{items_view}
-use Rattle.ecr_model.specs.Members.{are_texts}
+use Rattle.ecr_model.specs.requests.Members.{are_texts}
 use Rattle.ecr_api.proofs.values.are_texts.Given as goal
 
 abbrev pub invariant-loop-item : goal.invariant-loop-item

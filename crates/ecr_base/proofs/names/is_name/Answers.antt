@@ -1,7 +1,7 @@
 use Rattle.std.proofs.Common.{◌≡◌, arith}
 use Rattle.std.proofs.lemmas.Grind.{common_steps}
-use Rattle.ecr_model.specs.Names.{is_name}
-use Rattle.ecr_model.proofs.NamesLemmas.{is_name-IsName}
+use Rattle.ecr_model.specs.names.Names.{is_name}
+use Rattle.ecr_model.proofs.lemmas.names.NamesLemmas.{is_name-IsName}
 use Rattle.ecr_base.proofs.names.is_name.Goals as goal
 
 pub returns-then-text-le-MAX_LENGTH-clause-exact : goal.returns-then-text-le-MAX_LENGTH-clause-exact

@@ -1,7 +1,7 @@
 use Rattle.std.proofs.Common.{◌≡◌, ◌-◌, ◌+◌, length, false, true, sym, arith}
 use Rattle.std.proofs.lemmas.Grind.{common_steps}
-use Rattle.ecr_model.specs.Sites.{is_site_word}
-use Rattle.ecr_model.proofs.SitesLemmas.{site_of-off, site_of-on, site_of-none, site_of-ReadsSite}
+use Rattle.ecr_model.specs.names.Sites.{is_site_word}
+use Rattle.ecr_model.proofs.lemmas.names.SitesLemmas.{site_of-off, site_of-on, site_of-none, site_of-ReadsSite}
 use Rattle.ecr_base.proofs.sites.read_site.Goals as goal
 
 pub returns-then-not-is_site_word-clause-exact : goal.returns-then-not-is_site_word-clause-exact

@@ -1,4 +1,4 @@
-use Rattle.ecr_model.proofs.SitesLemmas.{site_of-ReadsSite, site_of-site_word}
+use Rattle.ecr_model.proofs.lemmas.names.SitesLemmas.{site_of-ReadsSite, site_of-site_word}
 use Rattle.ecr_base.proofs.sites.site_has_one_reader.Goals as goal
 
 pub returns-clause-exact : goal.returns-clause-exact

@@ -1,6 +1,6 @@
 use Rattle.std.proofs.Common.{◌<◌, ◌∙◌, ℕ, List, IsUtf8, length, sym, subst, arith}
 use Rattle.std.specs.Str.Lossy.{utf8_valid_len}
-use Rattle.ecr_model.proofs.SitesLemmas.{utf8_or_empty-IsUtf8, utf8_or_empty-short}
+use Rattle.ecr_model.proofs.lemmas.names.SitesLemmas.{utf8_or_empty-IsUtf8, utf8_or_empty-short}
 use Rattle.ecr_base.proofs.sites.utf8_from.Goals as goal
 
 pub utf8_in-requires : goal.utf8_in-requires

@@ -1,6 +1,6 @@
 use Rattle.std.proofs.Common.{◌<◌, ◌∙◌, length, sym, arith}
 use Rattle.std.specs.Str.Lossy.{utf8_valid_len}
-use Rattle.ecr_model.proofs.SitesLemmas.{utf8_or_empty-IsUtf8, utf8_or_empty-short}
+use Rattle.ecr_model.proofs.lemmas.names.SitesLemmas.{utf8_or_empty-IsUtf8, utf8_or_empty-short}
 use Rattle.ecr_base.proofs.sites.utf8_or_empty.Goals as goal
 
 pub returns-in-Ok : goal.returns-in-Ok

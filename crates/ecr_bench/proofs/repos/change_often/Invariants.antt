@@ -1,5 +1,5 @@
 use Rattle.std.proofs.Common.{◌-◌, ◌≤◌}
-use Rattle.ecr_model.specs.Journals.{past}
+use Rattle.ecr_model.specs.registry.Journals.{past}
 use Rattle.ecr_bench.proofs.repos.change_often.Given as goal
 
 abbrev pub invariant-loop-ticket : goal.invariant-loop-ticket

@@ -1,5 +1,5 @@
 use Rattle.std.proofs.Common.{suc, ◌≤◌, ◌+◌, sym, subst, arith}
-use Rattle.ecr_model.specs.Journals.{past}
+use Rattle.ecr_model.specs.registry.Journals.{past}
 use Rattle.ecr_repo.specs.States.{State, turn_at}
 use Rattle.ecr_repo.proofs.StateLemmas.{the_next_turn_is_later}
 use Rattle.ecr_bench.proofs.repos.change_once.Goals as goal

@@ -1,6 +1,6 @@
 use Rattle.std.proofs.Common.{◌≡◌, length, sym, ap, ◌∙◌, subst}
-use Rattle.ecr_model.specs.declared.journal.CellKey.TheVariants.{Repository}
-use Rattle.ecr_model.specs.Journals.{past}
+use Rattle.ecr_model.specs.declared.registry.journal.CellKey.TheVariants.{Repository}
+use Rattle.ecr_model.specs.registry.Journals.{past}
 use Rattle.ecr_repo.specs.States.{State}
 use Rattle.ecr_cells.specs.Deeds.{ask_of, changes}
 use Rattle.ecr_cells.specs.Turns.{turn_in_repository}

@@ -4,7 +4,7 @@ use Rattle.serde_json.specs.Data.{depth}
 use Rattle.serde_json.specs.Read.{max_depth}
 use Rattle.serde_json.specs.View.{view}
 use Rattle.serde_json.specs.Written.{compact_text, has_float}
-use Rattle.ecr_model.specs.Refusals.{refusal_body}
+use Rattle.ecr_model.specs.requests.Refusals.{refusal_body}
 use Rattle.ecr_errors.proofs.RefusalsLemmas.{has_float-refusal_data, depth-refusal_data}
 use Rattle.ecr_errors.proofs.body.refusal_body.Goals as goal
 

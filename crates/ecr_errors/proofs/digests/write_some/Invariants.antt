@@ -1,5 +1,5 @@
 use Rattle.std.proofs.Common.{◌≡◌, ◌++◌, ◌∷◌, drop, string_bytes}
-use Rattle.ecr_model.specs.Refusals.{digests_text}
+use Rattle.ecr_model.specs.requests.Refusals.{digests_text}
 use Rattle.ecr_errors.proofs.DigestsLemmas.{more_digests}
 use Rattle.ecr_errors.proofs.digests.write_some.Given as goal
 

@@ -1,5 +1,5 @@
 use Rattle.std.proofs.Common.{refl}
-use Rattle.ecr_model.specs.Replies.{connection_line, failed_reply}
+use Rattle.ecr_model.specs.http.Replies.{connection_line, failed_reply}
 use Rattle.ecr_errors.proofs.fixed.failed_head.Goals as goal
 
 pub returns-then-close : goal.returns-then-close

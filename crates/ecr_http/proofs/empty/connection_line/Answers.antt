@@ -1,5 +1,5 @@
 use Rattle.std.proofs.Common.{refl}
-use Rattle.ecr_model.specs.Replies.{connection_line}
+use Rattle.ecr_model.specs.http.Replies.{connection_line}
 use Rattle.ecr_http.proofs.empty.connection_line.Goals as goal
 
 pub returns-then-close : goal.returns-then-close

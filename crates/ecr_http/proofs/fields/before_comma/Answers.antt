@@ -1,7 +1,7 @@
 use Rattle.std.proofs.Common.{◌∙◌, take, sym, ap, arith}
 use Rattle.std.proofs.lemmas.List.{take_all}
 use Rattle.std.proofs.lemmas.List.Sums.{position_or_len_is}
-use Rattle.ecr_model.specs.Fields.{is_comma}
+use Rattle.ecr_model.specs.http.Fields.{is_comma}
 use Rattle.ecr_http.proofs.fields.before_comma.Goals as goal
 
 -- the first comma is here

@@ -1,5 +1,5 @@
 use Rattle.std.proofs.Common.{◌≡◌, ◌<◌, ℕ, false, get_or}
-use Rattle.ecr_model.specs.Fields.{is_comma}
+use Rattle.ecr_model.specs.http.Fields.{is_comma}
 use Rattle.ecr_http.proofs.fields.before_comma.Given as goal
 
 abbrev pub invariant-loop-at : goal.invariant-loop-at

@@ -1,5 +1,5 @@
 use Rattle.std.proofs.Common.{◌≡◌, length}
-use Rattle.ecr_model.specs.Fields.{has_later_close}
+use Rattle.ecr_model.specs.http.Fields.{has_later_close}
 use Rattle.ecr_http.proofs.fields.has_later_close.Given as goal
 
 abbrev pub invariant-loop-rest : goal.invariant-loop-rest

@@ -1,5 +1,5 @@
 use Rattle.std.proofs.Common.{◌≤◌, ◌-◌, length}
-use Rattle.ecr_model.specs.Framing.{HasNoEnd}
+use Rattle.ecr_model.specs.http.Framing.{HasNoEnd}
 use Rattle.ecr_http.proofs.head.find_end_within.Given as goal
 
 abbrev pub invariant-loop-looked : goal.invariant-loop-looked

@@ -1,5 +1,5 @@
 use Rattle.std.proofs.Common.{sym, arith}
-use Rattle.ecr_model.proofs.StreamLemmas.{blank_length-le}
+use Rattle.ecr_model.proofs.lemmas.http.StreamLemmas.{blank_length-le}
 use Rattle.ecr_http.proofs.LeadLemmas.{blank_length-more, blank_length-stop}
 use Rattle.ecr_http.proofs.lead.blank_length.Goals as goal
 

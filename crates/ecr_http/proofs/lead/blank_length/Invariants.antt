@@ -1,5 +1,5 @@
 use Rattle.std.proofs.Common.{◌≤◌}
-use Rattle.ecr_model.specs.Stream.{blank_length}
+use Rattle.ecr_model.specs.http.Stream.{blank_length}
 use Rattle.ecr_http.proofs.lead.blank_length.Given as goal
 
 abbrev pub invariant-loop-n : goal.invariant-loop-n

@@ -1,7 +1,7 @@
 use Rattle.std.proofs.Common.{◌∙◌, Bool, List, ℕ, sym, subst}
 use Rattle.std.specs.Io.KnownBytes.{Appends}
 use Rattle.std.proofs.KnownBytes.{Appends-nil}
-use Rattle.ecr_model.specs.Replies.{interim}
+use Rattle.ecr_model.specs.http.Replies.{interim}
 use Rattle.ecr_http.specs.Sends.{Sends}
 use Rattle.ecr_http.proofs.next.tell.Goals as goal
 

@@ -1,6 +1,6 @@
 use Rattle.std.proofs.Common.{◌≡◌, ◌^◌, ◌<◌, ℕ, List, take}
 use Rattle.std.specs.List.{sum_by}
-use Rattle.ecr_model.specs.declared.manifest.Descriptor.{Descriptor}
+use Rattle.ecr_model.specs.declared.registry.manifest.Descriptor.{Descriptor}
 use Rattle.ecr_manifest.proofs.blobs.total_size.Given as goal
 
 -- the sum so far

@@ -1,6 +1,6 @@
 use Rattle.std.proofs.Common.{◌≡◌, Some, option_map, ap, sym, ◌∙◌, arith}
 use Rattle.serde_json.specs.View.{view}
-use Rattle.ecr_model.specs.Documents.{document}
+use Rattle.ecr_model.specs.documents.Documents.{document}
 use Rattle.ecr_manifest.proofs.CountLemmas.{document-size}
 use Rattle.ecr_manifest.proofs.bytes.facts.Goals as goal
 

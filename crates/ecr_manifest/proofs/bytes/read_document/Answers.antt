@@ -2,8 +2,8 @@ use Rattle.std.proofs.Common.{◌≡◌, ◌∙◌, Option, IfOk, option_map, ap
 use Rattle.serde_json.specs.Data.{Data}
 use Rattle.serde_json.specs.Read.{read}
 use Rattle.serde_json.specs.View.{view}
-use Rattle.ecr_model.specs.Documents.{document}
-use Rattle.ecr_model.proofs.DocumentLemmas.{document-IsUtf8}
+use Rattle.ecr_model.specs.documents.Documents.{document}
+use Rattle.ecr_model.proofs.lemmas.documents.DocumentLemmas.{document-IsUtf8}
 use Rattle.ecr_manifest.proofs.bytes.read_document.Goals as goal
 
 -- the text is the body

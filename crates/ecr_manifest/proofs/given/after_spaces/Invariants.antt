@@ -1,5 +1,5 @@
 use Rattle.std.proofs.Common.{◌≡◌, drop}
-use Rattle.ecr_model.specs.Manifests.{after_spaces}
+use Rattle.ecr_model.specs.documents.Manifests.{after_spaces}
 use Rattle.ecr_manifest.proofs.given.after_spaces.Given as goal
 
 abbrev pub invariant-loop-at : goal.invariant-loop-at

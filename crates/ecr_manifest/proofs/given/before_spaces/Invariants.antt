@@ -1,5 +1,5 @@
 use Rattle.std.proofs.Common.{◌≡◌, ◌≤◌, ℕ, List, take}
-use Rattle.ecr_model.specs.Manifests.{through_last}
+use Rattle.ecr_model.specs.documents.Manifests.{through_last}
 use Rattle.ecr_manifest.proofs.given.before_spaces.Given as goal
 
 -- what was found in the first bytes

@@ -1,5 +1,5 @@
 use Rattle.std.proofs.Common.{◌≡◌, List, Option, IfOk, sym, subst}
-use Rattle.ecr_model.specs.declared.manifest.Descriptor.{Descriptor}
+use Rattle.ecr_model.specs.declared.registry.manifest.Descriptor.{Descriptor}
 use Rattle.ecr_manifest.proofs.ManifestLemmas.{descriptors-items_view}
 use Rattle.ecr_manifest.proofs.manifest.descriptors.Goals as goal
 

@@ -1,6 +1,6 @@
 use Rattle.std.proofs.Common.{rules, ◌≡◌, Some, sym}
 use Rattle.serde_json.specs.View.{view}
-use Rattle.ecr_model.specs.Manifests.{entries_of}
+use Rattle.ecr_model.specs.documents.Manifests.{entries_of}
 use Rattle.ecr_manifest.proofs.CountLemmas.{entries_of-length}
 use Rattle.ecr_manifest.proofs.manifest.entries_of.Goals as goal
 

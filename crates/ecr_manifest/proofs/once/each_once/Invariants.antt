@@ -4,7 +4,7 @@ use Rattle.std.specs.Cmp.Lexicographic.{slice_cmp}
 use Rattle.std.specs.Ordering.{nat_cmp}
 use Rattle.std.specs.List.{fold}
 use Rattle.ecr_model.specs.declared.names.Digest.{Digest}
-use Rattle.ecr_model.specs.Manifests.{with_digest}
+use Rattle.ecr_model.specs.documents.Manifests.{with_digest}
 use Rattle.ecr_manifest.proofs.OnceLemmas.{is_kept}
 use Rattle.ecr_manifest.proofs.once.each_once.Given as goal
 

@@ -1,4 +1,4 @@
-use Rattle.ecr_model.proofs.CreationLemmas.{a_creation_is_kept}
+use Rattle.ecr_model.proofs.lemmas.registry.CreationLemmas.{a_creation_is_kept}
 use Rattle.ecr_model.proofs.laws.a_creation_is_kept.Goals as goal
 
 pub returns : goal.returns

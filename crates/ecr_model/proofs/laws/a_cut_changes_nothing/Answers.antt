@@ -1,4 +1,4 @@
-use Rattle.ecr_model.proofs.StreamLemmas.{a_cut_changes_nothing}
+use Rattle.ecr_model.proofs.lemmas.http.StreamLemmas.{a_cut_changes_nothing}
 use Rattle.ecr_model.proofs.laws.a_cut_changes_nothing.Goals as goal
 
 pub returns : goal.returns

@@ -1,4 +1,4 @@
-use Rattle.ecr_model.proofs.SessionLemmas.{the_clock_tells_the_moments, a_fixed_moment_is_each}
+use Rattle.ecr_model.proofs.lemmas.sessions.SessionLemmas.{the_clock_tells_the_moments, a_fixed_moment_is_each}
 use Rattle.ecr_model.proofs.laws.moments_are_told.Goals as goal
 
 pub returns-clause-clock : goal.returns-clause-clock

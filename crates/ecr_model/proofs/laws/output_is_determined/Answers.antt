@@ -1,4 +1,4 @@
-use Rattle.ecr_model.proofs.EndLemmas.{output_is_determined}
+use Rattle.ecr_model.proofs.lemmas.sessions.EndLemmas.{output_is_determined}
 use Rattle.ecr_model.proofs.laws.output_is_determined.Goals as goal
 
 pub returns : goal.returns

@@ -1,5 +1,5 @@
 use Rattle.std.proofs.Common.{◌≡◌, ◌+◌, [], take, drop}
-use Rattle.ecr_model.specs.Policies.{clashes_from}
+use Rattle.ecr_model.specs.documents.Policies.{clashes_from}
 use Rattle.ecr_policy.proofs.clashes.first_among.Given as goal
 
 abbrev pub invariant-loop-at : goal.invariant-loop-at

@@ -1,7 +1,7 @@
 use Rattle.std.proofs.Common.{◌≡◌, map, bytes_eq, string_bytes}
 use Rattle.std.specs.List.{list_any, list_all}
 use Rattle.serde_json.specs.View.{members_view}
-use Rattle.ecr_model.specs.Policies.{are_among}
+use Rattle.ecr_model.specs.documents.Policies.{are_among}
 use Rattle.ecr_policy.proofs.json.are_among.Given as goal
 
 abbrev pub invariant-loop-key : goal.invariant-loop-key

@@ -1,7 +1,7 @@
 use Rattle.std.proofs.Common.{◌≡◌, Option, IfOk, option_map, sym, subst}
 use Rattle.serde_json.specs.Data.{Data}
 use Rattle.serde_json.specs.View.{view}
-use Rattle.ecr_model.proofs.DocumentLemmas.{document-IsUtf8}
+use Rattle.ecr_model.proofs.lemmas.documents.DocumentLemmas.{document-IsUtf8}
 use Rattle.ecr_policy.proofs.reading.read_document.Goals as goal
 
 -- a text is UTF-8

@@ -1,6 +1,6 @@
 use Rattle.std.proofs.Common.{◌≡◌, ◌++◌}
 use Rattle.serde_json.specs.View.{items_view}
-use Rattle.ecr_model.specs.Policies.{rules_of}
+use Rattle.ecr_model.specs.documents.Policies.{rules_of}
 use Rattle.ecr_policy.proofs.rules.rules_of.Given as goal
 
 abbrev pub invariant-loop-item : goal.invariant-loop-item

@@ -1,6 +1,6 @@
 use Rattle.std.proofs.Common.{◌≡◌, drop}
 use Rattle.serde_json.specs.View.{items_view}
-use Rattle.ecr_model.specs.Policies.{are_prefixes}
+use Rattle.ecr_model.specs.documents.Policies.{are_prefixes}
 use Rattle.ecr_policy.proofs.selection.are_prefixes.Given as goal
 
 abbrev pub invariant-loop-item : goal.invariant-loop-item

@@ -1,5 +1,5 @@
 use Rattle.std.proofs.Common.{◌≤◌}
-use Rattle.ecr_model.specs.Journals.{past}
+use Rattle.ecr_model.specs.registry.Journals.{past}
 use Rattle.ecr_repo.proofs.tests.a_repository_comes_and_goes.Given as goal
 
 abbrev pub invariant-loop-ticket : goal.invariant-loop-ticket

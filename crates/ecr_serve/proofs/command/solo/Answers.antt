@@ -1,5 +1,5 @@
 use Rattle.std.proofs.Common.{◌∙◌}
-use Rattle.ecr_model.specs.Sessions.{Outside}
+use Rattle.ecr_model.specs.sessions.Sessions.{Outside}
 use Rattle.ecr_serve.proofs.CommandLemmas.{RunsSession-nothing, RunsSession-same_words, SaysUsage-same_end}
 use Rattle.ecr_serve.proofs.command.solo.Goals as goal
 

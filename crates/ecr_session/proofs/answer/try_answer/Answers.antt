@@ -1,10 +1,10 @@
 use Rattle.std.proofs.Common.{◌≡◌, ◌∙◌, List, codes, refl, sym, ap, subst}
 use Rattle.std.proofs.lemmas.Result.{IfOk-weaker, on_err_weaker}
 use Rattle.ecr_model.specs.declared.names.SiteId.{SiteId}
-use Rattle.ecr_model.specs.Actions.{asks, refuses, reading}
-use Rattle.ecr_model.specs.Posed.{base_of, target_of}
-use Rattle.ecr_model.specs.Rendered.{refused}
-use Rattle.ecr_model.specs.Replies.{empty_reply}
+use Rattle.ecr_model.specs.requests.Actions.{asks, refuses, reading}
+use Rattle.ecr_model.specs.requests.Posed.{base_of, target_of}
+use Rattle.ecr_model.specs.requests.Rendered.{refused}
+use Rattle.ecr_model.specs.http.Replies.{empty_reply}
 use Rattle.ecr_api.specs.Readings.{meaning}
 use Rattle.ecr_http.specs.Replies.{reply_bytes}
 use Rattle.ecr_session.proofs.AnswerLemmas.{IsReplied-refused, IsReplied-same, IsReplied-unrouted, Reads-refused, StoppedWith-same, posed_of-api, posed_of-unrouted}

@@ -1,6 +1,6 @@
 use Rattle.std.proofs.Common.{[], drop}
 use Rattle.std.specs.List.{Contains}
-use Rattle.ecr_model.specs.Requests.{named_script}
+use Rattle.ecr_model.specs.requests.Requests.{named_script}
 use Rattle.ecr_session.specs.Turns.{LeadsTo}
 use Rattle.ecr_session.proofs.describe.describe_named.Given as goal
 

@@ -1,9 +1,9 @@
 use Rattle.std.proofs.Common.{◌∙◌, ℕ, List, [], Option, ap, subst}
 use Rattle.std.proofs.lemmas.Result.{IfOk-weaker, on_err_weaker}
 use Rattle.ecr_model.specs.declared.names.Name.{Name}
-use Rattle.ecr_model.specs.declared.reply.SiteReply.{SiteReply}
-use Rattle.ecr_model.specs.declared.call.SiteCall.TheVariants as site_calls
-use Rattle.ecr_model.specs.Requests.{listed_script, next_place, site_script}
+use Rattle.ecr_model.specs.declared.requests.reply.SiteReply.{SiteReply}
+use Rattle.ecr_model.specs.declared.requests.call.SiteCall.TheVariants as site_calls
+use Rattle.ecr_model.specs.requests.Requests.{listed_script, next_place, site_script}
 use Rattle.ecr_session.specs.Turns.{RanWith, StoppedWith}
 use Rattle.ecr_session.proofs.AnswerLemmas.{RanWith-page, StoppedWith-no_page, StoppedWith-page}
 use Rattle.ecr_session.proofs.TurnLemmas.{OnErr-always, RanWith-ends}

@@ -1,5 +1,5 @@
 use Rattle.std.proofs.Common.{sym}
-use Rattle.ecr_model.specs.Replies.{empty_reply, connection_line}
+use Rattle.ecr_model.specs.http.Replies.{empty_reply, connection_line}
 use Rattle.ecr_session.proofs.FixedLemmas.{long_reply-head, long_reply-body}
 use Rattle.ecr_session.proofs.fixed.long_reply.Goals as goal
 

@@ -1,7 +1,7 @@
 use Rattle.std.proofs.Common.{◌∙◌, ◌+◌, sym, ap, rules}
 use Rattle.std.proofs.lemmas.Bool.{cond-true, cond-false}
 use Rattle.std.proofs.lemmas.List.{take_rest}
-use Rattle.ecr_model.specs.Hosts.{is_port}
+use Rattle.ecr_model.specs.http.Hosts.{is_port}
 use Rattle.ecr_session.proofs.HostLemmas.{without_port-last, without_port-none}
 use Rattle.ecr_session.proofs.host.without_port.Goals as goal
 

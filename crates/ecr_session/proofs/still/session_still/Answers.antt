@@ -1,8 +1,8 @@
 use Rattle.std.proofs.Common.{refl, sym, ap, map, subst}
 use Rattle.ecr_model.specs.declared.outcome.End.{End}
-use Rattle.ecr_model.specs.SessionLaws.{all_places}
-use Rattle.ecr_model.specs.Sessions.{Account, IsServed, Outside, Serves, SettingOf}
-use Rattle.ecr_model.specs.Soundness.{AreFresh}
+use Rattle.ecr_model.specs.laws.SessionLaws.{all_places}
+use Rattle.ecr_model.specs.sessions.Sessions.{Account, IsServed, Outside, Serves, SettingOf}
+use Rattle.ecr_model.specs.registry.Soundness.{AreFresh}
 use Rattle.ecr_desk.specs.Desks.{DeskState, still_of}
 use Rattle.ecr_session.specs.Serving.{account_in}
 use Rattle.ecr_session.proofs.FreshLemmas.{Serves-fresh}

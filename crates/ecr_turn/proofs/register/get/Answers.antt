@@ -1,5 +1,5 @@
 use Rattle.std.proofs.Common.{◌≤◌, ap, sym, ◌∙◌, arith}
-use Rattle.ecr_model.specs.Journals.{below}
+use Rattle.ecr_model.specs.registry.Journals.{below}
 use Rattle.ecr_turn.specs.Register.{value_of}
 use Rattle.ecr_turn.proofs.JournalLaws.{Rises-below, what_stood_stays}
 use Rattle.ecr_turn.proofs.register.get.Goals as goal

@@ -1,5 +1,5 @@
 use Rattle.std.proofs.Common.{rules, ◌⊎◌, ◌≤◌, ap, sym, subst, ◌∙◌}
-use Rattle.ecr_model.specs.Growth.{Grows, Follows}
+use Rattle.ecr_model.specs.registry.Growth.{Grows, Follows}
 use Rattle.ecr_turn.specs.Journals.{IsBeginning, longer_of}
 use Rattle.ecr_turn.specs.Steps.{merged}
 use Rattle.ecr_turn.proofs.Journals.{max_left, ordered}

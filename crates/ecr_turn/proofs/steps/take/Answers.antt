@@ -1,6 +1,6 @@
 use Rattle.std.proofs.Common.{rules, ◌≤◌, ◌∷◌, Some, None, ap, sym, subst, ◌∙◌}
 use Rattle.atomic_table.specs.Table.{rest}
-use Rattle.ecr_model.specs.Growth.{Grows}
+use Rattle.ecr_model.specs.registry.Growth.{Grows}
 use Rattle.ecr_turn.specs.Steps.{holding}
 use Rattle.ecr_turn.specs.Seats.{Takes}
 use Rattle.ecr_turn.proofs.Moves.{in_hand, may_learn}

@@ -1,6 +1,6 @@
 use Rattle.std.proofs.Common.{[], ◌∷◌, sym, subst}
 use Rattle.ecr_blob_upload.specs.Loads.{given}
-use Rattle.ecr_model.specs.Requests.{Decided, cell_turn}
+use Rattle.ecr_model.specs.requests.Requests.{Decided, cell_turn}
 use Rattle.ecr_desk.specs.Desks.{Ran}
 use Rattle.ecr_cells.specs.Deeds.{told_of}
 use Rattle.ecr_cells.specs.Desks.{state_of}

@@ -1,5 +1,5 @@
 use Rattle.std.proofs.Common.{ap, ◌∙◌}
-use Rattle.ecr_model.specs.Requests.{first_ask}
+use Rattle.ecr_model.specs.requests.Requests.{first_ask}
 use Rattle.ecr_cells.specs.Deeds.{ask_of, told_of}
 use Rattle.ecr_cells.specs.Desks.{state_of}
 use Rattle.ecr_cells.proofs.RunLemmas.{Ran-first_turn}

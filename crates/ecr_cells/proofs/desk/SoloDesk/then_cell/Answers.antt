@@ -1,9 +1,9 @@
 use Rattle.std.proofs.Common.{◌≡◌, [], sym, ◌∙◌, subst, IfOk}
 use Rattle.ecr_blob_upload.specs.Loads.{given}
-use Rattle.ecr_model.specs.declared.reply.Reply.{Reply}
-use Rattle.ecr_model.specs.declared.reply.Reply.TheVariants.{Refused}
-use Rattle.ecr_model.specs.Requests.{Decided, plain, then_cell, cell_turn}
-use Rattle.ecr_model.specs.Scripts.{Script, ends}
+use Rattle.ecr_model.specs.declared.requests.reply.Reply.{Reply}
+use Rattle.ecr_model.specs.declared.requests.reply.Reply.TheVariants.{Refused}
+use Rattle.ecr_model.specs.requests.Requests.{Decided, plain, then_cell, cell_turn}
+use Rattle.ecr_model.specs.registry.Scripts.{Script, ends}
 use Rattle.ecr_desk.specs.Desks.{Ran}
 use Rattle.ecr_desk.proofs.DeskLemmas.{Ran-ends}
 use Rattle.ecr_cells.specs.Deeds.{told_of}

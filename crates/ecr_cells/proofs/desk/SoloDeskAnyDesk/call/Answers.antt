@@ -1,9 +1,9 @@
 use Rattle.std.proofs.Common.{◌≡◌, ◌∷◌, ℕ, List, [], refl, sym, ap, ◌∙◌, subst}
 use Rattle.ecr_blob_upload.specs.Loads.{given}
-use Rattle.ecr_model.specs.declared.journal.Place.{Place}
-use Rattle.ecr_model.specs.declared.reply.Reply.{Reply}
-use Rattle.ecr_model.specs.Contents.{AreContents}
-use Rattle.ecr_model.specs.Requests.{Decided, plain, call_script}
+use Rattle.ecr_model.specs.declared.registry.journal.Place.{Place}
+use Rattle.ecr_model.specs.declared.requests.reply.Reply.{Reply}
+use Rattle.ecr_model.specs.registry.Contents.{AreContents}
+use Rattle.ecr_model.specs.requests.Requests.{Decided, plain, call_script}
 use Rattle.ecr_desk.specs.Desks.{Ran, seen_by}
 use Rattle.ecr_desk.proofs.DeskLemmas.{Ran-call, Stopped-call, StoppedWithin-none}
 use Rattle.ecr_cells.specs.Deeds.{told_of}

@@ -1,7 +1,7 @@
 use Rattle.std.proofs.Common.{[], ◌∷◌, refl, sym, ap, subst, Contains}
 use Rattle.ecr_model.specs.declared.names.SiteId.{SiteId}
-use Rattle.ecr_model.specs.declared.reply.SiteReply.{SiteReply}
-use Rattle.ecr_model.specs.Requests.{site_script}
+use Rattle.ecr_model.specs.declared.requests.reply.SiteReply.{SiteReply}
+use Rattle.ecr_model.specs.requests.Requests.{site_script}
 use Rattle.ecr_desk.specs.Desks.{Ran, seen_by}
 use Rattle.ecr_desk.proofs.DeskLemmas.{StoppedWithin-none}
 use Rattle.ecr_cells.specs.Deeds.{told_of}

@@ -1,5 +1,5 @@
 use Rattle.std.proofs.Common.{subst}
-use Rattle.ecr_model.specs.Soundness.{AreSound}
+use Rattle.ecr_model.specs.registry.Soundness.{AreSound}
 use Rattle.ecr_cells.specs.Desks.{Desk, seen_of}
 use Rattle.ecr_cells.proofs.desk.SoloDeskAnyDesk.served.Goals as goal
 

@@ -1,5 +1,5 @@
 use Rattle.std.proofs.Common.{refl, sym, ap, ◌∙◌, subst}
-use Rattle.ecr_model.specs.declared.journal.CellKey.TheVariants.{Directory}
+use Rattle.ecr_model.specs.declared.registry.journal.CellKey.TheVariants.{Directory}
 use Rattle.ecr_cells.specs.Deeds.{ask_of, told_of}
 use Rattle.ecr_cells.specs.SiteCells.{Site, IsTurn}
 use Rattle.ecr_cells.proofs.SiteLemmas.{AreOfSite-turned, IsTurn-directory}

@@ -1,5 +1,5 @@
 use Rattle.std.proofs.Common.{◌≡◌, [], None, sym, ap, ◌∙◌, subst}
-use Rattle.ecr_model.specs.declared.journal.CellKey.TheVariants.{Repository}
+use Rattle.ecr_model.specs.declared.registry.journal.CellKey.TheVariants.{Repository}
 use Rattle.ecr_model.specs.declared.names.Name.{Name}
 use Rattle.ecr_repo.specs.States.{State}
 use Rattle.ecr_cells.specs.Deeds.{ask_of, told_of}

@@ -1,6 +1,6 @@
 use Rattle.std.proofs.Common.{◌≡◌, Option, Some, is_some, IfSome, sym, ap, ◌∙◌, subst}
 use Rattle.std.proofs.lemmas.Result.{IfOk-weaker, on_err_weaker}
-use Rattle.ecr_model.specs.declared.journal.CellKey.TheVariants.{Repository}
+use Rattle.ecr_model.specs.declared.registry.journal.CellKey.TheVariants.{Repository}
 use Rattle.ecr_repo.specs.States.{State}
 use Rattle.ecr_cells.specs.Deeds.{ask_of, told_of}
 use Rattle.ecr_cells.specs.SiteCells.{Site, IsOfName, IsNextTurn, IsTurn, IsQuiet, Puts, state_of}

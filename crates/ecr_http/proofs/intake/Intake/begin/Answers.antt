@@ -1,6 +1,6 @@
 use Rattle.std.proofs.Common.{◌≡◌, ◌+◌, ◌<◌, ◌≤◌, ℕ, List, Some, None, suc, length, take, drop, sym, ap, ◌∙◌, subst, arith}
-use Rattle.ecr_model.specs.Chunks.{Says}
-use Rattle.ecr_model.proofs.ChunkLemmas.{line_end-is}
+use Rattle.ecr_model.specs.http.Chunks.{Says}
+use Rattle.ecr_model.proofs.lemmas.http.ChunkLemmas.{line_end-is}
 use Rattle.ecr_http.specs.Decoding.{Decodes, left_to_do}
 use Rattle.ecr_http.specs.declared.chunks.Stage.TheVariants as stages
 use Rattle.ecr_http.proofs.BodyLemmas.{rest_of}

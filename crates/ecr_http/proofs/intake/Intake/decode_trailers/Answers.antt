@@ -1,6 +1,6 @@
 use Rattle.std.proofs.Common.{◌+◌, ℕ, List, sym, subst}
-use Rattle.ecr_model.specs.Framing.{IsEnd}
-use Rattle.ecr_model.specs.Chunks.{max_trailers}
+use Rattle.ecr_model.specs.http.Framing.{IsEnd}
+use Rattle.ecr_model.specs.http.Chunks.{max_trailers}
 use Rattle.ecr_http.specs.Decoding.{Decoded}
 use Rattle.ecr_http.specs.declared.chunks.Next.TheVariants as nexts
 use Rattle.ecr_http.proofs.BodyLemmas.{rest_of}

@@ -1,5 +1,5 @@
 use Rattle.std.proofs.Common.{arith}
-use Rattle.ecr_model.specs.Sessions.{max_read}
+use Rattle.ecr_model.specs.sessions.Sessions.{max_read}
 use Rattle.ecr_http.specs.Takings.{left_to_read}
 use Rattle.ecr_http.proofs.intake.Intake.fill.Goals as goal
 

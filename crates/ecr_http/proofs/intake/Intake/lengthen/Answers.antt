@@ -1,6 +1,6 @@
 use Rattle.std.proofs.Common.{◌≡◌, ◌∙◌, ap, arith}
-use Rattle.ecr_model.specs.Framing.{max_head, HasNoEnd}
-use Rattle.ecr_model.specs.Stream.{blank_length}
+use Rattle.ecr_model.specs.http.Framing.{max_head, HasNoEnd}
+use Rattle.ecr_model.specs.http.Stream.{blank_length}
 use Rattle.ecr_http.specs.Leads.{IsShort}
 use Rattle.ecr_http.specs.Takings.{left_to_read}
 use Rattle.ecr_http.specs.declared.intake.Intake.{Intake}

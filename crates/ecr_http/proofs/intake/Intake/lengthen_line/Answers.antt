@@ -1,5 +1,5 @@
 use Rattle.std.proofs.Common.{arith}
-use Rattle.ecr_model.specs.Chunks.{max_chunk_line}
+use Rattle.ecr_model.specs.http.Chunks.{max_chunk_line}
 use Rattle.ecr_http.proofs.DecodingLemmas.{Line-awaits, Line-long}
 use Rattle.ecr_http.proofs.intake.Intake.lengthen_line.Goals as goal
 

@@ -1,5 +1,5 @@
 use Rattle.std.proofs.Common.{ℕ, sym, subst, arith}
-use Rattle.ecr_model.specs.Chunks.{max_trailers}
+use Rattle.ecr_model.specs.http.Chunks.{max_trailers}
 use Rattle.ecr_http.specs.Decoding.{Awaits, left_to_do}
 use Rattle.ecr_http.specs.declared.chunks.Stage.TheVariants as stages
 use Rattle.ecr_http.proofs.DecodingLemmas.{Trailers-awaits, Trailers-long}

@@ -1,5 +1,5 @@
 use Rattle.std.proofs.Common.{refl}
-use Rattle.ecr_model.specs.Framing.{max_head}
+use Rattle.ecr_model.specs.http.Framing.{max_head}
 use Rattle.ecr_http.proofs.EventLemmas.{Nexts-bad, Nexts-long_head, Nexts-stopped}
 use Rattle.ecr_http.proofs.intake.Intake.next_event.Goals as goal
 

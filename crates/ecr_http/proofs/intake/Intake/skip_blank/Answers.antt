@@ -1,6 +1,6 @@
 use Rattle.std.proofs.Common.{◌≡◌, sym, ap, ◌∙◌, subst, arith}
-use Rattle.ecr_model.specs.Stream.{blank_length}
-use Rattle.ecr_model.proofs.StreamLemmas.{blank_length-le, blank_length-skipped}
+use Rattle.ecr_model.specs.http.Stream.{blank_length}
+use Rattle.ecr_model.proofs.lemmas.http.StreamLemmas.{blank_length-le, blank_length-skipped}
 use Rattle.ecr_http.specs.Leads.{IsReady, IsRead, passed}
 use Rattle.ecr_http.specs.Takings.{left_to_read}
 use Rattle.ecr_http.proofs.LeadLemmas.{IsReady-passed, IsRead-passed_blank}

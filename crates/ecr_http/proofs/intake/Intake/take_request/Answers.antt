@@ -1,6 +1,6 @@
 use Rattle.std.proofs.Common.{arith}
-use Rattle.ecr_model.specs.Framing.{max_head}
-use Rattle.ecr_model.specs.Sessions.{max_read}
+use Rattle.ecr_model.specs.http.Framing.{max_head}
+use Rattle.ecr_model.specs.sessions.Sessions.{max_read}
 use Rattle.ecr_http.proofs.EventLemmas.{taken-small, Behind-body, Behind-bad, Behind-long, Behind-stopped}
 use Rattle.ecr_http.specs.declared.intake.Stop.TheVariants as stops
 use Rattle.ecr_http.proofs.intake.Intake.take_request.Goals as goal

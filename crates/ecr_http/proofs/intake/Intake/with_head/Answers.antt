@@ -1,5 +1,5 @@
 use Rattle.std.proofs.Common.{◌≡◌, ◌∙◌, true, false, refl, sym, ap}
-use Rattle.ecr_model.specs.Framing.{max_body}
+use Rattle.ecr_model.specs.http.Framing.{max_body}
 use Rattle.ecr_http.proofs.EventLemmas.{Nexts-unframed, Nexts-long, Nexts-untold, Nexts-head}
 use Rattle.ecr_http.proofs.intake.Intake.with_head.Goals as goal
 

@@ -1,5 +1,5 @@
 use Rattle.std.proofs.Common.{◌∙◌}
-use Rattle.ecr_model.specs.Policies.{have_same_texts}
+use Rattle.ecr_model.specs.documents.Policies.{have_same_texts}
 use Rattle.ecr_policy.specs.Sets.{prefixes_of}
 use Rattle.ecr_policy.proofs.SetLemmas.{pointwise-InOrder, have_same_texts-Prefixes}
 use Rattle.ecr_policy.proofs.compared.Compared.has_same_texts.Goals as goal

@@ -1,6 +1,6 @@
 use Rattle.std.proofs.Common.{◌≡◌, ◌≤◌, sym, subst, arith}
-use Rattle.ecr_model.specs.Journals.{past}
-use Rattle.ecr_model.specs.Steps.{line_of}
+use Rattle.ecr_model.specs.registry.Journals.{past}
+use Rattle.ecr_model.specs.registry.Steps.{line_of}
 use Rattle.ecr_repo.specs.States.{State, turn_at}
 use Rattle.ecr_repo.proofs.StateLemmas.{IsKept-called}
 use Rattle.ecr_repo.proofs.state.RepoState.change.Goals as goal

@@ -1,6 +1,6 @@
 use Rattle.std.proofs.Common.{◌∙◌, ◌<◌, refl, sym, ap, subst, arith, length}
-use Rattle.ecr_model.specs.Scripts.{Realm}
-use Rattle.ecr_model.specs.Stream.{Point}
+use Rattle.ecr_model.specs.registry.Scripts.{Realm}
+use Rattle.ecr_model.specs.http.Stream.{Point}
 use Rattle.ecr_session.specs.Serving.{entries_in}
 use Rattle.ecr_session.proofs.StartLemmas.{HasCome-start}
 use Rattle.ecr_session.proofs.session.Session.run.Goals as goal

@@ -1,7 +1,7 @@
 use Rattle.std.proofs.Common.{◌∙◌, refl, sym, ap, subst}
 use Rattle.ecr_model.specs.declared.outcome.End.TheVariants as ends
-use Rattle.ecr_model.specs.Sessions.{Outside}
-use Rattle.ecr_model.specs.Stream.{Point}
+use Rattle.ecr_model.specs.sessions.Sessions.{Outside}
+use Rattle.ecr_model.specs.http.Stream.{Point}
 use Rattle.ecr_session.specs.Serving.{SendsLast, ServesOver, ServesRequest, account_in}
 use Rattle.ecr_session.specs.declared.session.Session.{Session}
 use Rattle.ecr_session.proofs.EndLemmas.{Serves-whole, Serves-truncated, Serves-fault, Serves-spent, Serves-mem, Serves-no_room, Serves-untold, Serves-bad, Serves-long}

@@ -1,8 +1,8 @@
 use Rattle.std.proofs.Common.{◌≡◌, ◌<◌, ◌≤◌, ◌+◌, ◌∙◌, List, [], ◌∷◌, ◌++◌, refl, true, false, length, subst, sym, ap}
-use Rattle.ecr_model.specs.Directories.{is_registered, line_of}
-use Rattle.ecr_model.specs.Journals.{past}
-use Rattle.ecr_model.specs.declared.directory.Registered.TheVariants.{New, Known}
-use Rattle.ecr_model.specs.declared.journal.Line.{Line}
+use Rattle.ecr_model.specs.registry.Directories.{is_registered, line_of}
+use Rattle.ecr_model.specs.registry.Journals.{past}
+use Rattle.ecr_model.specs.declared.registry.directory.Registered.TheVariants.{New, Known}
+use Rattle.ecr_model.specs.declared.registry.journal.Line.{Line}
 use Rattle.ecr_site.specs.States.{SiteJournal, frame_of_journal, directory_of, entered, registration_in, with_line}
 use Rattle.ecr_site.proofs.StateLemmas.{IsKept-line_of, is_at-registered, past-with_line, registration-known, registration-new, was_there, was_not_there}
 use Rattle.ecr_site.proofs.state.SiteState.enter.Goals as goal

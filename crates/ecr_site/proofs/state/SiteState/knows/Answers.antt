@@ -1,6 +1,6 @@
 use Rattle.std.proofs.Common.{◌∙◌, ap, bytes_eq}
 use Rattle.std.specs.List.{list_any}
-use Rattle.ecr_model.specs.Directories.{is_registered}
+use Rattle.ecr_model.specs.registry.Directories.{is_registered}
 use Rattle.ecr_site.specs.States.{directory_of}
 use Rattle.ecr_site.proofs.StateLemmas.{list_any-name_order}
 use Rattle.ecr_site.proofs.state.SiteState.knows.Goals as goal

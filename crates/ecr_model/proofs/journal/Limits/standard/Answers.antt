@@ -1,7 +1,0 @@
-use Rattle.std.proofs.Common.{refl}
-use Rattle.ecr_model.specs.Limits.{standard}
-use Rattle.ecr_model.proofs.journal.Limits.standard.Goals as goal
-
-pub returns : goal.returns
-unfolding standard
-returns c = refl

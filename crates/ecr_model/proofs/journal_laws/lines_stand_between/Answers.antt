@@ -1,5 +1,0 @@
-use Rattle.ecr_model.proofs.JournalExampleLemmas.{lines_stand_between}
-use Rattle.ecr_model.proofs.journal_laws.lines_stand_between.Goals as goal
-
-pub returns : goal.returns
-returns c = lines_stand_between

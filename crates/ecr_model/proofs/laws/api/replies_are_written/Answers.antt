@@ -1,0 +1,5 @@
+use Rattle.ecr_model.proofs.lemmas.examples.ApiExampleLemmas.{replies_are_written}
+use Rattle.ecr_model.proofs.laws.api.replies_are_written.Goals as goal
+
+pub returns : goal.returns
+returns c = replies_are_written

@@ -1,0 +1,5 @@
+use Rattle.ecr_model.proofs.lemmas.registry.StepLemmas.{a_refusal_changes_nothing}
+use Rattle.ecr_model.proofs.laws.journal.a_refusal_changes_nothing.Goals as goal
+
+pub returns : goal.returns
+returns c = a_refusal_changes_nothing

@@ -1,0 +1,5 @@
+use Rattle.ecr_model.proofs.lemmas.examples.JournalExampleLemmas.{lines_stand_between}
+use Rattle.ecr_model.proofs.laws.journal.lines_stand_between.Goals as goal
+
+pub returns : goal.returns
+returns c = lines_stand_between

@@ -1,0 +1,10 @@
+use Rattle.ecr_model.specs.registry.Directories as directories
+use Rattle.ecr_model.specs.registry.Steps as steps
+use Rattle.ecr_model.proofs.lemmas.registry.JournalLemmas.{the_lines_between_lead_on}
+use Rattle.ecr_model.proofs.laws.journal.the_lines_between_lead_on.Goals as goal
+
+pub returns-clause-repositories : goal.returns-clause-repositories
+returns-clause-repositories c key limits = the_lines_between_lead_on (steps.after_line key limits) steps.first_state
+
+pub returns-clause-directories : goal.returns-clause-directories
+returns-clause-directories c limits = the_lines_between_lead_on (directories.after_line limits) directories.first_directory

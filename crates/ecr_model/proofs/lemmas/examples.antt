@@ -1,0 +1,5 @@
+pub mod ExampleLemmas
+pub mod ChunkExampleLemmas
+pub mod JournalExampleLemmas
+pub mod ApiExampleLemmas
+pub mod ViewExampleLemmas

@@ -1,0 +1,11 @@
+pub mod JournalLemmas
+pub mod GrowthLemmas
+pub mod StepLemmas
+pub mod CrossingLemmas
+pub mod ScriptLemmas
+pub mod CellLemmas
+pub mod CreationLemmas
+pub mod CauseLemmas
+pub mod SoundnessLemmas
+pub mod ViewLemmas
+pub mod StillViewLemmas

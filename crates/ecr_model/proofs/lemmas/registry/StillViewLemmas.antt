@@ -1,0 +1,252 @@
+-- The laws of the views of a caller that is alone: they are those of runs.
+use Rattle.std.proofs.Common.{◌≡◌, ◌≤◌, ℕ, zero, suc, ◌-◌, Bool, true, false, inl, inr, List, [], ◌∷◌, ◌++◌, Option, None, Some, is_some, if◌then◌else◌, refl, sym, ap, ◌∙◌, subst, arith, append-nil}
+use Rattle.std.proofs.Math.Path.{fun_ext}
+use Rattle.std.proofs.lemmas.Bool.{cond_both}
+use Rattle.ecr_model.specs.declared.registry.journal.CellKey.{CellKey}
+use Rattle.ecr_model.specs.declared.registry.journal.CellKey.TheVariants.{Directory, Repository}
+use Rattle.ecr_model.specs.declared.registry.journal.Entry.{Entry}
+use Rattle.ecr_model.specs.declared.registry.journal.Line.{Line}
+use Rattle.ecr_model.specs.declared.registry.journal.Place.{Place}
+use Rattle.ecr_model.specs.declared.names.Digest.{Digest}
+use Rattle.ecr_model.specs.registry.Directories as directories
+use Rattle.ecr_model.specs.registry.Growth.{Each, Rises}
+use Rattle.ecr_model.specs.registry.Journals.{past, past_from, IsSoundFrom}
+use Rattle.ecr_model.specs.registry.Scripts.{Ask, ends, turn, Realm, World, Turned, frame_of, turn_at, same_cell, with_lines, lines_after, next_ticket, next_turn, place_of, count_of, count_changed, entered, Run, run, run_to}
+use Rattle.ecr_model.specs.registry.Soundness.{IsSoundIn, AreSound}
+use Rattle.ecr_model.specs.registry.Steps as steps
+use Rattle.ecr_model.specs.registry.Views.{View, Views, with_view, Made, places_of, result_of, lines_of, Visit, Visits, Halts, alone_in, whole, views_of, unsealed}
+use Rattle.ecr_model.specs.laws.ViewLaws.{RunsVisit, IsRun, VisitsRun, IsFirst, HaltsRunTo, RunsToHalt}
+use Rattle.ecr_model.proofs.lemmas.registry.ScriptLemmas.{count_of-place, run_to-turn}
+use Rattle.ecr_model.proofs.lemmas.registry.SoundnessLemmas.{same_cell-same, sound-turn, sound-entered, past-after}
+use Rattle.ecr_model.proofs.lemmas.registry.ViewLemmas.{IsAhead-visit, turn_at-later, what_was_seen_stays}
+
+-- ---- the views of whole journals after an entry
+
+-- the journal of a cell after its next turn
+abbrev lines_next : World → CellKey → Option Entry → List Line
+lines_next world cell entry = lines_after 0 (next_ticket world cell) (world.journals cell) entry
+
+whole-chosen : (here : Bool) (one other : List Line) → (if here then Some (whole one) else Some (whole other)) ≡ Some (whole (if here then one else other))
+whole-chosen true one other = refl
+whole-chosen false one other = refl
+
+pub views_of-entered : (realm : Realm) (world : World) (cell : CellKey) (entry : Option Entry)
+    → with_view (views_of world.journals) cell (whole (lines_next world cell entry)) ≡ views_of (entered realm world cell entry).journals
+unfolding with_view with_lines entered
+views_of-entered realm world cell None =
+    fun_ext (λ k. cond_both (same_cell cell k) (Some (whole (world.journals cell))) (Some (whole (world.journals k)))
+    (λ (o : Option View). o ≡ Some (whole (world.journals k)))
+    (λ same. ap (λ (c : CellKey). Some (whole (world.journals c))) (same_cell-same cell k same)) (λ apart. refl))
+views_of-entered realm world cell (Some entry) =
+    fun_ext (λ k. whole-chosen (same_cell cell k) (lines_next world cell (Some entry)) (world.journals k))
+
+-- ---- one turn
+
+lines_after-is : (caller ticket : ℕ) (lines : List Line) (entry : Option Entry)
+    → lines_after caller ticket lines entry ≡ lines ++ lines_of caller ticket entry
+lines_after-is caller ticket lines None = sym (append-nil lines)
+lines_after-is caller ticket lines (Some entry) = refl
+
+late-own : (caller ticket : ℕ) (entry : Option Entry) → Each (λ l. ticket ≤ l.ticket) (lines_of caller ticket entry)
+late-own caller ticket None = tt
+late-own caller ticket (Some entry) = (omega arith, tt)
+
+-- a turn doesn't read its own entry
+turn_at-own : (realm : Realm) (cell : CellKey) (lines : List Line) (caller ticket : ℕ) (sealed : Option Digest) (ask : Ask) (entry : Option Entry)
+    → turn_at realm cell (lines_after caller ticket lines entry) ticket sealed ask ≡ turn_at realm cell lines ticket sealed ask
+turn_at-own realm cell lines caller ticket sealed ask entry =
+    ap (λ (ls : List Line). turn_at realm cell ls ticket sealed ask) (lines_after-is caller ticket lines entry)
+    ∙ turn_at-later realm cell lines (lines_of caller ticket entry) ticket sealed ask (late-own caller ticket entry)
+
+Rises-sound : {S : Type 0} (after : S → Line → Option S) (low : ℕ) (s : S) (lines : List Line) → IsSoundFrom after low s lines
+    → Rises low lines (past_from low lines)
+unfolding IsSoundFrom
+Rises-sound after low s [] sound = omega arith
+Rises-sound after low s (l ∷ ls) sound = (sound.0, Rises-sound after (suc l.ticket) sound.1.0 ls sound.1.2)
+
+Rises-cell : (realm : Realm) (cell : CellKey) (lines : List Line) → IsSoundIn realm cell lines → Rises 0 lines (past lines)
+Rises-cell realm (Directory site) lines sound = Rises-sound (directories.after_line (frame_of realm site)) 0 directories.first_directory lines sound
+Rises-cell realm (Repository key) lines sound = Rises-sound (steps.after_line key realm.limits) 0 steps.first_state lines sound
+
+-- the next turn of a run as a turn that was made
+abbrev made_next : Realm → World → CellKey → Ask → Made
+made_next realm world cell ask =
+    record { place = place_of cell (next_ticket world cell) (next_turn realm world cell ask); sealed = None }
+
+-- the next turn of a run is a visit
+visit-next : (realm : Realm) (world : World) (cell : CellKey) (ask : Ask) → AreSound realm world.journals
+    → Visit (alone_in realm) (Some (whole (world.journals cell))) (whole (lines_next world cell (next_turn realm world cell ask).entry)) cell ask
+    (made_next realm world cell ask)
+visit-next realm world cell ask sound =
+    let lines : List Line = world.journals cell in
+    let turned : Turned = next_turn realm world cell ask in
+    let news : List Line = lines_next world cell turned.entry in
+    let seen : Turned = turn_at realm cell news (next_ticket world cell) None ask in
+    let same : seen ≡ turned = turn_at-own realm cell lines 0 (next_ticket world cell) None ask turned.entry in
+    let grown : past lines ≤ past news = past-after 0 lines turned.entry in
+    record {
+      cell_is = refl;
+      changed_is = ap (λ (t : Turned). is_some t.entry) (sym same);
+      sealed_is = refl;
+      fresh = omega arith;
+      within = omega arith;
+      comes = record {
+        others = [];
+        longer = lines_after-is 0 (next_ticket world cell) lines turned.entry
+            ∙ ap (λ (t : Turned). lines ++ lines_of 0 (next_ticket world cell) t.entry) (sym same)
+            ∙ ap (λ (ls : List Line). ls ++ lines_of 0 (next_ticket world cell) seen.entry) (sym (append-nil lines));
+        foreign = tt;
+        later = tt;
+        same = refl;
+        onward = omega arith;
+      };
+      rises = Rises-cell realm cell news (sound-turn realm cell lines 0 (next_ticket world cell) None ask (sound cell) (omega arith));
+      shared = λ none. absurd (cc);
+      alone = λ yes_alone. record { no_others = refl; next = refl; at_end = refl };
+    }
+
+-- the journal after the caller's next turn
+journal-next : (lines others news : List Line) (caller ticket at : ℕ) (entry other : Option Entry)
+    → news ≡ (lines ++ others) ++ lines_of caller ticket entry → others ≡ [] → caller ≡ 0 → ticket ≡ at → entry ≡ other
+    → news ≡ lines_after 0 at lines other
+journal-next lines others news caller ticket at entry other is none number place same =
+    is
+    ∙ ap (λ (ls : List Line). (lines ++ ls) ++ lines_of caller ticket entry) none
+    ∙ ap (λ (ls : List Line). ls ++ lines_of caller ticket entry) (append-nil lines)
+    ∙ ap (λ n. lines ++ lines_of n ticket entry) number
+    ∙ ap (λ n. lines ++ lines_of 0 n entry) place
+    ∙ ap (λ e. lines ++ lines_of 0 at e) same
+    ∙ sym (lines_after-is 0 at lines other)
+
+-- a visit by a caller that is alone and sees the whole journal is the next turn of a run
+record IsNextTurn (realm : Realm) (world : World) (cell : CellKey) (ask : Ask) (view : View) (made : Made) : Type 0 where
+  result : result_of realm cell view.seen ask made ≡ next_turn realm world cell ask
+  place_is : made.place ≡ place_of cell (next_ticket world cell) (next_turn realm world cell ask)
+  view_is : view ≡ whole (lines_next world cell (next_turn realm world cell ask).entry)
+
+visit-is_next : (realm : Realm) (world : World) (cell : CellKey) (ask : Ask) (view : View) (made : Made)
+    → Visit (alone_in realm) (Some (whole (world.journals cell))) view cell ask made → IsNextTurn realm world cell ask view made
+visit-is_next realm world cell ask view made visit =
+    let was : View = whole (world.journals cell) in
+    let lines : List Line = world.journals cell in
+    let ticket : ℕ = next_ticket world cell in
+    let seen : Turned = result_of realm cell view.seen ask made in
+    let turned : Turned = next_turn realm world cell ask in
+    let alone = visit.alone refl in
+    let at : made.place.ticket ≡ ticket = alone.next in
+    let caller : view.caller ≡ 0 = visit.comes.same in
+    let stays : seen ≡ turn_at realm cell lines made.place.ticket made.sealed ask =
+    what_was_seen_stays realm cell made.place.ticket made.sealed ask (Some was) (Some view)
+    (IsAhead-visit (alone_in realm) (Some was) view cell ask made visit) (omega (arith, at)) in
+    let same : seen ≡ turned = stays
+    ∙ ap (λ n. turn_at realm cell lines n made.sealed ask) at
+    ∙ ap (λ d. turn_at realm cell lines ticket d ask) visit.sealed_is in
+    let journal : view.seen ≡ lines_next world cell turned.entry =
+    journal-next lines visit.comes.others view.seen view.caller made.place.ticket ticket seen.entry turned.entry visit.comes.longer alone.no_others caller at
+    (ap (λ (t : Turned). t.entry) same) in
+    record {
+      result = same;
+      place_is = ap (λ (c : CellKey). record { cell = c; ticket = made.place.ticket; changed = made.place.changed }) visit.cell_is
+          ∙ ap (λ n. record { cell = cell; ticket = n; changed = made.place.changed }) at
+          ∙ ap (λ b. record { cell = cell; ticket = ticket; changed = b }) (visit.changed_is ∙ ap (λ (t : Turned). is_some t.entry) same);
+      view_is = ap (λ n. record { caller = n; past = view.past; seen = view.seen }) caller
+          ∙ ap (λ n. record { caller = 0; past = n; seen = view.seen }) alone.at_end
+          ∙ ap whole journal;
+    }
+
+-- ---- runs
+
+-- a turn adds at most one entry
+count_of-few : (entry : Option Entry) → count_of entry ≤ 1
+count_of-few None = omega arith
+count_of-few (Some entry) = omega arith
+
+module _ {A : Type 0} where
+  pub runs_visit : RunsVisit A
+  unfolding Visits run
+  runs_visit realm world (ends a) sound = (refl, refl)
+  runs_visit realm world (turn cell ask next) sound =
+      let turned : Turned = next_turn realm world cell ask in
+      let after : World = entered realm world cell turned.entry in
+      let view : View = whole (lines_next world cell turned.entry) in
+      let rest : Run A = run realm after (next turned.told) in
+      let last : Views = views_of rest.world.journals in
+      let made : List Made = unsealed rest.places in
+      let same : result_of realm cell view.seen ask (made_next realm world cell ask) ≡ turned =
+      turn_at-own realm cell (world.journals cell) 0 (next_ticket world cell) None ask turned.entry in (
+        view,
+        visit-next realm world cell ask sound,
+        subst (λ (t : Turned). Visits (alone_in realm) (with_view (views_of world.journals) cell view) last (next t.told) made rest.answer) (sym same)
+            (subst (λ (views : Views). Visits (alone_in realm) views last (next turned.told) made rest.answer) (sym (views_of-entered realm world cell turned.entry))
+            (runs_visit realm after (next turned.told) (sound-entered realm world cell ask sound))),
+      )
+
+  pub visits_run : VisitsRun A
+  unfolding Visits run
+  visits_run realm world now (ends a) [] answer v = record { leaves = v.0; places_are = refl; answer_is = v.1 }
+  visits_run realm world now (ends a) (m ∷ ms) answer v = absurd v
+  visits_run realm world now (turn cell ask next) [] answer v = absurd v
+  visits_run realm world now (turn cell ask next) (m ∷ ms) answer v =
+      let turned : Turned = next_turn realm world cell ask in
+      let after : World = entered realm world cell turned.entry in
+      let is : IsNextTurn realm world cell ask v.0 m = visit-is_next realm world cell ask v.0 m v.1 in
+      let rest : Visits (alone_in realm) (views_of after.journals) now (next turned.told) ms answer =
+      subst (λ (views : Views). Visits (alone_in realm) views now (next turned.told) ms answer) (views_of-entered realm world cell turned.entry)
+      (subst (λ (w : View). Visits (alone_in realm) (with_view (views_of world.journals) cell w) now (next turned.told) ms answer) is.view_is
+      (subst (λ (t : Turned). Visits (alone_in realm) (with_view (views_of world.journals) cell v.0) now (next t.told) ms answer) is.result v.2)) in
+      let run_is : IsRun A realm after (next turned.told) now ms answer = visits_run realm after now (next turned.told) ms answer rest in
+      record {
+        leaves = run_is.leaves;
+        places_are = ap (λ p. p ∷ places_of ms) is.place_is ∙ ap (λ ps. place_of cell (next_ticket world cell) turned ∷ ps) run_is.places_are;
+        answer_is = run_is.answer_is;
+      }
+
+  pub halts_run_to : HaltsRunTo A
+  unfolding Halts run run_to
+  halts_run_to realm world now (ends a) [] v = record { leaves = v; rest = []; places_are = refl }
+  halts_run_to realm world now (ends a) (m ∷ ms) v = absurd v
+  halts_run_to realm world now (turn cell ask next) [] (inl is) = record { leaves = is; rest = (run realm world (turn cell ask next)).places; places_are = refl }
+  halts_run_to realm world now (turn cell ask next) [] (inr g) = let shared : true ≡ false = g.0 in absurd (cc)
+  halts_run_to realm world now (turn cell ask next) (m ∷ ms) v =
+      let turned : Turned = next_turn realm world cell ask in
+      let after : World = entered realm world cell turned.entry in
+      let is : IsNextTurn realm world cell ask v.0 m = visit-is_next realm world cell ask v.0 m v.1 in
+      let rest : Halts (alone_in realm) (views_of after.journals) now (next turned.told) ms =
+      subst (λ (views : Views). Halts (alone_in realm) views now (next turned.told) ms) (views_of-entered realm world cell turned.entry)
+      (subst (λ (w : View). Halts (alone_in realm) (with_view (views_of world.journals) cell w) now (next turned.told) ms) is.view_is
+      (subst (λ (t : Turned). Halts (alone_in realm) (with_view (views_of world.journals) cell v.0) now (next t.told) ms) is.result v.2)) in
+      let first : IsFirst A realm after (next turned.told) now ms = halts_run_to realm after now (next turned.told) ms rest in
+      let counted : (if m.place.changed then 1 else 0) ≡ count_of turned.entry =
+      ap (λ (p : Place). if p.changed then 1 else 0) is.place_is ∙ count_of-place turned.entry in
+      record {
+        leaves = first.leaves
+            ∙ ap (λ (w : World). views_of w.journals)
+            (sym (run_to-turn (count_changed (places_of (m ∷ ms))) (count_changed (places_of ms)) realm world cell ask next (omega (arith, counted))));
+        rest = first.rest;
+        places_are = ap (λ ps. place_of cell (next_ticket world cell) turned ∷ ps) first.places_are
+            ∙ ap (λ p. p ∷ (places_of ms ++ first.rest)) (sym is.place_is);
+      }
+
+  pub runs_to_halt : RunsToHalt A
+  unfolding Halts run run_to
+  runs_to_halt zero realm world (ends a) sound within = ([], refl, refl)
+  runs_to_halt (suc n) realm world (ends a) sound within = absurd (omega (arith, within))
+  runs_to_halt zero realm world (turn cell ask next) sound within = ([], refl, inl refl)
+  runs_to_halt (suc n) realm world (turn cell ask next) sound within =
+      let turned : Turned = next_turn realm world cell ask in
+      let after : World = entered realm world cell turned.entry in
+      let view : View = whole (lines_next world cell turned.entry) in
+      let left : ℕ = suc n - count_of turned.entry in
+      let rest = runs_to_halt left realm after (next turned.told) (sound-entered realm world cell ask sound) (omega (arith, within)) in
+      let last : Views = views_of (run_to left realm after (next turned.told)).journals in
+      let same : result_of realm cell view.seen ask (made_next realm world cell ask) ≡ turned =
+      turn_at-own realm cell (world.journals cell) 0 (next_ticket world cell) None ask turned.entry in (
+        made_next realm world cell ask ∷ rest.0,
+        omega (arith, count_of-place turned.entry, count_of-few turned.entry, rest.1),
+        (
+          view,
+          visit-next realm world cell ask sound,
+          subst (λ (t : Turned). Halts (alone_in realm) (with_view (views_of world.journals) cell view) last (next t.told) rest.0) (sym same)
+              (subst (λ (views : Views). Halts (alone_in realm) views last (next turned.told) rest.0) (sym (views_of-entered realm world cell turned.entry)) rest.2),
+        ),
+      )

@@ -1,0 +1,4 @@
+pub mod Documents
+pub mod Conditions
+pub mod Policies
+pub mod Manifests

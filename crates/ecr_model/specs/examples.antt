@@ -1,0 +1,4 @@
+pub mod Example
+pub mod JournalExample
+pub mod ViewExample
+pub mod ApiExample

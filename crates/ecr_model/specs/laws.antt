@@ -1,0 +1,5 @@
+pub mod ViewLaws
+pub mod ScriptLaws
+pub mod StreamLaws
+pub mod SessionLaws
+pub mod JournalLaws

@@ -1,0 +1,10 @@
+pub mod Content
+pub mod Contents
+pub mod Limits
+pub mod Journals
+pub mod Growth
+pub mod Steps
+pub mod Directories
+pub mod Scripts
+pub mod Soundness
+pub mod Views
