@@ -9,7 +9,11 @@ use Rattle.ecr_model.specs.requests.Members.{digits_value, is_decimal, place_of}
 use Rattle.ecr_model.specs.names.Sites.{is_digit}
 
 is_test : IsDigitsTest (λ ds. list_all is_digit ds ≡ true)
-is_test = record { empty = refl; parts = λ c cs e. grind (arith, nat_tests); more = λ c cs k e. grind (arith, nat_tests) }
+is_test = record {
+  empty = refl;
+  parts = λ c cs e. grind (arith, nat_tests);
+  more = λ c cs k e. grind (arith, nat_tests);
+}
 
 folds : FoldsDigits (λ n ds. fold (λ m c. m * 10 + (c - 48)) n ds)
 folds = record { empty = λ n. refl; more = λ n c cs k. refl }
@@ -23,10 +27,12 @@ own = numerals_by_fold (λ ds. list_all is_digit ds ≡ true) is_test (λ n ds. 
 decimal-digits : (text : List ℕ) → is_decimal text ≡ true → (list_all is_digit text ≡ true) × (0 < length text)
 unfolding is_decimal
 decimal-digits [] e = cc
-decimal-digits (c ∷ rest) e = ((and_parts (list_all is_digit (c ∷ rest)) (not (c == 48) || length rest == 0) e).0, omega arith)
+decimal-digits (c ∷ rest) e =
+    ((and_parts (list_all is_digit (c ∷ rest)) (not (c == 48) || length rest == 0) e).0, omega arith)
 
 -- the place of a decimal
-of_decimal : (text : List ℕ) → is_decimal text ≡ true → place_of text ≡ cond (nat_lt (digits_value text) (2 ^ 63)) (Some (digits_value text)) None
+of_decimal : (text : List ℕ) → is_decimal text ≡ true
+    → place_of text ≡ cond (nat_lt (digits_value text) (2 ^ 63)) (Some (digits_value text)) None
 unfolding place_of
 of_decimal text e = rw e refl
 
@@ -36,7 +42,8 @@ unfolding place_of
 place_of-other text e = rw e refl
 
 -- a decimal that is read as a number is the place of that number
-pub place_of-Ok : {E : Type 0} (text : List ℕ) (r : Result ℕ E) (n : ℕ) → ParsesUnsigned 64 10 text r → r ≡ Ok n → is_decimal text ≡ true
+pub place_of-Ok : {E : Type 0} (text : List ℕ) (r : Result ℕ E) (n : ℕ) → ParsesUnsigned 64 10 text r → r ≡ Ok n
+    → is_decimal text ≡ true
     → place_of text ≡ cond (nat_lt n (2 ^ 63)) (Some n) None
 place_of-Ok text r n parses is e =
     let digits = decimal-digits text e in
@@ -45,7 +52,8 @@ place_of-Ok text r n parses is e =
     of_decimal text e ∙ ap (λ m. cond (nat_lt m (2 ^ 63)) (Some m) None) (sym same)
 
 -- and one that isn't read is too great
-pub place_of-Err : {E : Type 0} (text : List ℕ) (r : Result ℕ E) (e : E) → ParsesUnsigned 64 10 text r → r ≡ Err e → is_decimal text ≡ true → place_of text ≡ None
+pub place_of-Err : {E : Type 0} (text : List ℕ) (r : Result ℕ E) (e : E) → ParsesUnsigned 64 10 text r → r ≡ Err e
+    → is_decimal text ≡ true → place_of text ≡ None
 place_of-Err text r e parses is d =
     let digits = decimal-digits text d in
     let told = rw is at (parse_digits own 64 text r parses digits.0) in

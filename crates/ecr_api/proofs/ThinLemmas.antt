@@ -33,7 +33,8 @@ cut (truth b) = truth b
 cut (texts ts) = texts (take max_texts ts)
 
 -- a list as it is kept, under f, where f gives the same for the list and for `{}`
-kept_list : {A : Type 0} (f : Data → A) (a : A) (b : Bool) (ds : Items) → f (array ds) ≡ a → f (object no_members) ≡ a → f (if b then array ds else object no_members) ≡ a
+kept_list : {A : Type 0} (f : Data → A) (a : A) (b : Bool) (ds : Items) → f (array ds) ≡ a → f (object no_members) ≡ a
+    → f (if b then array ds else object no_members) ≡ a
 kept_list f a true ds x y = x
 kept_list f a false ds x y = y
 
@@ -68,7 +69,8 @@ unless_null-thin (json_data.number n) = refl
 unless_null-thin (json_data.string s) = refl
 unless_null-thin (array ds) = there (are_texts ds) (first_items max_texts ds)
   where
-    there : (b : Bool) (fs : Items) → unless_null (if b then array fs else object no_members) ≡ Some (if b then array fs else object no_members)
+    there : (b : Bool) (fs : Items) → unless_null (if b then array fs else object no_members) ≡ Some
+        (if b then array fs else object no_members)
     there true fs = refl
     there false fs = refl
 unless_null-thin (object ms) = refl
@@ -88,7 +90,8 @@ are_texts-same : (ds : Items) → are_texts ds ≡ model.are_texts ds
 are_texts-same no_items = refl
 are_texts-same (item d ds) = ap (λ b. is_some (as_str d) && b) (are_texts-same ds)
 
-take_option : (n : ℕ) (o : Option (List ℕ)) (ts us : List (List ℕ)) → is_some o ≡ true → ts ≡ take n us → cons_option o ts ≡ take (suc n) (cons_option o us)
+take_option : (n : ℕ) (o : Option (List ℕ)) (ts us : List (List ℕ)) → is_some o ≡ true → ts ≡ take n us
+    → cons_option o ts ≡ take (suc n) (cons_option o us)
 take_option n None ts us e same = absurd (true≢false (sym e))
 take_option n (Some t) ts us e same = ap (λ l. t ∷ l) same
 
@@ -102,16 +105,24 @@ texts_of-first_items (suc n) (item d ds) e =
 
 -- a list of texts stays one, and no other value becomes one
 list_kept : (b : Bool) (ds : Items) → are_texts ds ≡ b
-    → option_map texts (option_and_then all_texts (as_array (if b then array (first_items max_texts ds) else object no_members))) ≡ option_map cut (option_map texts (all_texts ds))
+    → option_map texts (option_and_then all_texts
+    (as_array (if b then array (first_items max_texts ds) else object no_members))) ≡ option_map cut
+    (option_map texts (all_texts ds))
 list_kept true ds e =
-    let kept : all_texts (first_items max_texts ds) ≡ Some (texts_of (first_items max_texts ds)) = ap (λ b. if b then Some (texts_of (first_items max_texts ds)) else None) (are_texts-first_items max_texts ds e) in
-    let whole_list : all_texts ds ≡ Some (texts_of ds) = ap (λ b. if b then Some (texts_of ds) else None) (sym (are_texts-same ds) ∙ e) in
-    ap (option_map texts) kept ∙ ap (λ ts. Some (texts ts)) (texts_of-first_items max_texts ds e) ∙ sym (ap (λ o. option_map cut (option_map texts o)) whole_list)
+    let kept : all_texts (first_items max_texts ds) ≡ Some (texts_of (first_items max_texts ds)) =
+    ap (λ b. if b then Some (texts_of (first_items max_texts ds)) else None)
+    (are_texts-first_items max_texts ds e) in
+    let whole_list : all_texts ds ≡ Some (texts_of ds) =
+    ap (λ b. if b then Some (texts_of ds) else None) (sym (are_texts-same ds) ∙ e) in
+    ap (option_map texts) kept ∙ ap (λ ts. Some (texts ts)) (texts_of-first_items max_texts ds e)
+    ∙ sym (ap (λ o. option_map cut (option_map texts o)) whole_list)
 list_kept false ds e =
-    let none_kept : all_texts ds ≡ None = ap (λ b. if b then Some (texts_of ds) else None) (sym (are_texts-same ds) ∙ e) in
+    let none_kept : all_texts ds ≡ None =
+    ap (λ b. if b then Some (texts_of ds) else None) (sym (are_texts-same ds) ∙ e) in
     sym (ap (λ o. option_map cut (option_map texts o)) none_kept)
 
-list-thin : (d : Data) → option_map texts (option_and_then all_texts (as_array (thin d))) ≡ option_map cut (option_map texts (option_and_then all_texts (as_array d)))
+list-thin : (d : Data) → option_map texts (option_and_then all_texts (as_array (thin d))) ≡ option_map cut
+    (option_map texts (option_and_then all_texts (as_array d)))
 list-thin json_data.null = refl
 list-thin (json_data.boolean b) = refl
 list-thin (json_data.number n) = refl
@@ -143,7 +154,8 @@ typed-thin domains.RepositoryName d = text-thin d
 typed-thin domains.RepositoryNames d = list-thin d
 typed-thin domains.Mutability d = text-thin d
 typed-thin domains.Truth d = ap (option_map truth) (as_bool-thin d) ∙ truth_kept (as_bool d)
-typed-thin domains.Results d = ap (λ o. option_map whole (option_and_then as_integer o)) (as_number-thin d) ∙ whole_kept d
+typed-thin domains.Results d =
+    ap (λ o. option_map whole (option_and_then as_integer o)) (as_number-thin d) ∙ whole_kept d
 typed-thin domains.Token d = text-thin d
 
 -- ---- allowed values
@@ -223,7 +235,8 @@ module _ (base : SiteId) (served : List SiteId) where
   allows-cut domains.Token v = ap (λ o. is_some (option_and_then place_of o)) (text_in-cut v)
 
   -- a list of texts that is allowed is kept whole
-  allowed_whole : (domain : Domain) (ts : List (List ℕ)) → allows base served domain (texts ts) ≡ true → take max_texts ts ≡ ts
+  allowed_whole : (domain : Domain) (ts : List (List ℕ)) → allows base served domain (texts ts) ≡ true
+      → take max_texts ts ≡ ts
   allowed_whole domains.Account ts e = absurd (true≢false (sym e))
   allowed_whole domains.RepositoryName ts e = absurd (true≢false (sym e))
   allowed_whole domains.RepositoryNames ts e = few_names ts e
@@ -233,12 +246,14 @@ module _ (base : SiteId) (served : List SiteId) where
   allowed_whole domains.Token ts e = absurd (true≢false (sym e))
 
   -- a value that isn't bad is kept whole
-  fine_whole : (domain : Domain) (beside required : Bool) (v : Typed) → (if is_there v then not (allows base served domain v) || beside else required) ≡ false → cut v ≡ v
+  fine_whole : (domain : Domain) (beside required : Bool) (v : Typed)
+      → (if is_there v then not (allows base served domain v) || beside else required) ≡ false → cut v ≡ v
   fine_whole domain beside required absent e = refl
   fine_whole domain beside required (text t) e = refl
   fine_whole domain beside required (whole n) e = refl
   fine_whole domain beside required (truth b) e = refl
-  fine_whole domain beside required (texts ts) e = ap texts (allowed_whole domain ts (not_bad (allows base served domain (texts ts)) beside e))
+  fine_whole domain beside required (texts ts) e =
+      ap texts (allowed_whole domain ts (not_bad (allows base served domain (texts ts)) beside e))
 
 -- ---- the values of the members
 
@@ -246,42 +261,54 @@ module _ (base : SiteId) (served : List SiteId) where
 abbrev cut_value : Valued → Valued
 cut_value v = record { name = v.name; member = v.member; value = cut v.value }
 
-there_thin : (o : Option Data) → option_and_then unless_null (option_map thin o) ≡ option_map thin (option_and_then unless_null o)
+there_thin : (o : Option Data) → option_and_then unless_null (option_map thin o) ≡ option_map thin
+    (option_and_then unless_null o)
 there_thin None = refl
 there_thin (Some d) = unless_null-thin d
 
-typed_at : (domain : Domain) (o : Option Data) → option_map_or (typed domain) (option_map thin o) (Some absent) ≡ option_map cut (option_map_or (typed domain) o (Some absent))
+typed_at : (domain : Domain) (o : Option Data)
+    → option_map_or (typed domain) (option_map thin o) (Some absent) ≡ option_map cut
+    (option_map_or (typed domain) o (Some absent))
 typed_at domain None = refl
 typed_at domain (Some d) = typed-thin domain d
 
 behind : (m : Member) (o : Option Typed) (rest : Option (List Valued))
-    → option_and_then (λ value. option_map (λ values. valued m value ∷ values) (option_map (map cut_value) rest)) (option_map cut o)
+    → option_and_then (λ value. option_map (λ values. valued m value ∷ values) (option_map (map cut_value) rest))
+    (option_map cut o)
     ≡ option_map (map cut_value) (option_and_then (λ value. option_map (λ values. valued m value ∷ values) rest) o)
 behind m None rest = refl
 behind m (Some v) None = refl
 behind m (Some v) (Some values) = refl
 
-where_object : (b : Bool) (o : Option (List Valued)) → (if b then option_map (map cut_value) o else None) ≡ option_map (map cut_value) (if b then o else None)
+where_object : (b : Bool) (o : Option (List Valued))
+    → (if b then option_map (map cut_value) o else None) ≡ option_map (map cut_value) (if b then o else None)
 where_object true o = refl
 where_object false o = refl
 
 module _ (names : List (List ℕ)) (kept all : Data) (h : IsThin names kept all) where
-  typed_member-thin : (m : Member) → IsNamed names m.parameter → typed_member kept m ≡ option_map cut (typed_member all m)
+  typed_member-thin : (m : Member) → IsNamed names m.parameter
+      → typed_member kept m ≡ option_map cut (typed_member all m)
   typed_member-thin m named =
       let name = parameter_text m.parameter in
-      let same : member_at name kept ≡ option_map thin (member_at name all) = ap (option_and_then unless_null) (h.members name named) ∙ there_thin (get name all) in
+      let same : member_at name kept ≡ option_map thin (member_at name all) =
+      ap (option_and_then unless_null) (h.members name named) ∙ there_thin (get name all) in
       ap (λ o. option_map_or (typed m.domain) o (Some absent)) same ∙ typed_at m.domain (member_at name all)
 
-  all_typed-thin : (ms : List Member) → AreNamed names ms → all_typed ms kept ≡ option_map (map cut_value) (all_typed ms all)
+  all_typed-thin : (ms : List Member) → AreNamed names ms
+      → all_typed ms kept ≡ option_map (map cut_value) (all_typed ms all)
   all_typed-thin [] n = refl
   all_typed-thin (m ∷ ms) n =
-      ap₂ (λ rest o. option_and_then (λ value. option_map (λ values. valued m value ∷ values) rest) o) (all_typed-thin ms n.2) (typed_member-thin m n.0)
+      ap₂ (λ rest o. option_and_then (λ value. option_map (λ values. valued m value ∷ values) rest) o)
+      (all_typed-thin ms n.2) (typed_member-thin m n.0)
       ∙ behind m (typed_member all m) (all_typed ms all)
 
   -- the values of the kept members are those of the body's members, cut
-  typed_members-thin : (ms : List Member) → AreNamed names ms → typed_members ms kept ≡ option_map (map cut_value) (typed_members ms all)
+  typed_members-thin : (ms : List Member) → AreNamed names ms
+      → typed_members ms kept ≡ option_map (map cut_value) (typed_members ms all)
   unfolding typed_members
-  typed_members-thin ms n = ap₂ (λ b o. if b then o else None) h.objects (all_typed-thin ms n) ∙ where_object (is_some (as_object all)) (all_typed ms all)
+  typed_members-thin ms n =
+      ap₂ (λ b o. if b then o else None) h.objects (all_typed-thin ms n)
+      ∙ where_object (is_some (as_object all)) (all_typed ms all)
 
 -- ---- the first bad member
 
@@ -298,14 +325,17 @@ either_cut false v w x e = e
 
 named_value-cut : (name : List ℕ) (vs : List Valued) → named_value name (map cut_value vs) ≡ cut (named_value name vs)
 named_value-cut name [] = refl
-named_value-cut name (v ∷ vs) = either_cut (bytes_eq v.name name) v.value (named_value name vs) (named_value name (map cut_value vs)) (named_value-cut name vs)
+named_value-cut name (v ∷ vs) =
+    either_cut (bytes_eq v.name name) v.value (named_value name vs) (named_value name (map cut_value vs))
+    (named_value-cut name vs)
 
 stands_beside-cut : (vs : List Valued) (o : Option Parameter) → stands_beside (map cut_value vs) o ≡ stands_beside vs o
 stands_beside-cut vs None = refl
 stands_beside-cut vs (Some p) = ap is_there (named_value-cut (parameter_text p) vs) ∙ is_there-cut (value_at p vs)
 
 -- where no item of a list passes a test, the first of them doesn't, and none of the others
-find-None : {X : Type 0} (p : X → Bool) (x : X) (xs : List X) → find p (x ∷ xs) ≡ None → (p x ≡ false) × (find p xs ≡ None)
+find-None : {X : Type 0} (p : X → Bool) (x : X) (xs : List X) → find p (x ∷ xs) ≡ None → (p x ≡ false)
+    × (find p xs ≡ None)
 find-None p x xs e = grind arith
 
 -- an option that is none under f is none
@@ -316,21 +346,31 @@ option_map-None f (Some x) e = cc
 abbrev parameter_of : Valued → Parameter
 parameter_of v = v.member.parameter
 
-either_named : (b : Bool) (v : Valued) (o p : Option Valued) → option_map parameter_of o ≡ option_map parameter_of p → option_map parameter_of (cond b (Some (cut_value v)) o) ≡ option_map parameter_of (cond b (Some v) p)
+either_named : (b : Bool) (v : Valued) (o p : Option Valued) → option_map parameter_of o ≡ option_map parameter_of p
+    → option_map parameter_of (cond b (Some (cut_value v)) o) ≡ option_map parameter_of (cond b (Some v) p)
 either_named true v o p e = refl
 either_named false v o p e = e
 
 module _ (base : SiteId) (served : List SiteId) where
-  is_bad-cut : (all : List Valued) (v : Valued) → is_bad base served (map cut_value all) (cut_value v) ≡ is_bad base served all v
+  is_bad-cut : (all : List Valued) (v : Valued)
+      → is_bad base served (map cut_value all) (cut_value v) ≡ is_bad base served all v
   is_bad-cut all v =
-      ap₂ (λ t a. if t then not a || stands_beside (map cut_value all) v.member.apart else v.member.required) (is_there-cut v.value) (allows-cut base served v.member.domain v.value)
-      ∙ ap (λ b. if is_there v.value then not (allows base served v.member.domain v.value) || b else v.member.required) (stands_beside-cut all v.member.apart)
+      ap₂ (λ t a. if t then not a || stands_beside (map cut_value all) v.member.apart else v.member.required)
+      (is_there-cut v.value) (allows-cut base served v.member.domain v.value)
+      ∙ ap (λ b. if is_there v.value then not
+      (allows base served v.member.domain v.value) || b else v.member.required)
+      (stands_beside-cut all v.member.apart)
 
-  find-cut : (all vs : List Valued) → option_map parameter_of (find (is_bad base served (map cut_value all)) (map cut_value vs)) ≡ option_map parameter_of (find (is_bad base served all) vs)
+  find-cut : (all vs : List Valued) → option_map parameter_of
+      (find (is_bad base served (map cut_value all)) (map cut_value vs)) ≡ option_map parameter_of
+      (find (is_bad base served all) vs)
   find-cut all [] = refl
   find-cut all (v ∷ vs) =
-      ap (λ b. option_map parameter_of (cond b (Some (cut_value v)) (find (is_bad base served (map cut_value all)) (map cut_value vs)))) (is_bad-cut all v)
-      ∙ either_named (is_bad base served all v) v (find (is_bad base served (map cut_value all)) (map cut_value vs)) (find (is_bad base served all) vs) (find-cut all vs)
+      ap (λ b. option_map parameter_of
+      (cond b (Some (cut_value v)) (find (is_bad base served (map cut_value all)) (map cut_value vs))))
+      (is_bad-cut all v)
+      ∙ either_named (is_bad base served all v) v (find (is_bad base served (map cut_value all)) (map cut_value vs))
+      (find (is_bad base served all) vs) (find-cut all vs)
 
   -- the same member is the first bad one
   first_bad-cut : (vs : List Valued) → first_bad base served (map cut_value vs) ≡ first_bad base served vs
@@ -341,7 +381,8 @@ module _ (base : SiteId) (served : List SiteId) where
   none_bad all [] e = refl
   none_bad all (v ∷ vs) e =
       let each = find-None (is_bad base served all) v vs e in
-      let same = fine_whole base served v.member.domain (stands_beside all v.member.apart) v.member.required v.value each.0 in
+      let same = fine_whole base served v.member.domain
+      (stands_beside all v.member.apart) v.member.required v.value each.0 in
       ap₂ (λ x l. record { name = v.name; member = v.member; value = x } ∷ l) same (none_bad all vs each.1)
 
   -- where no member is bad, all values are kept whole
@@ -355,24 +396,33 @@ module _ (base : SiteId) (served : List SiteId) where
   unless_at None a b same = same refl
   unless_at (Some p) a b same = refl
 
-  values_reading-cut : (action : Action) (vs : List Valued) → values_reading base served action (map cut_value vs) ≡ values_reading base served action vs
+  values_reading-cut : (action : Action) (vs : List Valued)
+      → values_reading base served action (map cut_value vs) ≡ values_reading base served action vs
   unfolding values_reading
   values_reading-cut action vs =
       ap (λ o. unless_bad o (made_by base served action (map cut_value vs))) (first_bad-cut vs)
-      ∙ unless_at (first_bad base served vs) (made_by base served action (map cut_value vs)) (made_by base served action vs) (λ e. ap (made_by base served action) (all_whole vs e))
+      ∙ unless_at (first_bad base served vs) (made_by base served action (map cut_value vs))
+      (made_by base served action vs) (λ e. ap (made_by base served action) (all_whole vs e))
 
-  reading_at : (action : Action) (o : Option (List Valued)) → option_map_or (values_reading base served action) (option_map (map cut_value) o) (refuses Serialization) ≡ option_map_or (values_reading base served action) o (refuses Serialization)
+  reading_at : (action : Action) (o : Option (List Valued))
+      → option_map_or (values_reading base served action) (option_map (map cut_value) o) (refuses Serialization)
+      ≡ option_map_or (values_reading base served action) o (refuses Serialization)
   reading_at action None = refl
   reading_at action (Some vs) = values_reading-cut action vs
 
-  typed_reading-thin : (names : List (List ℕ)) (kept all : Data) → IsThin names kept all → (action : Action) → AreNamed names (members_of action) → typed_reading base served action kept ≡ typed_reading base served action all
+  typed_reading-thin : (names : List (List ℕ)) (kept all : Data) → IsThin names kept all → (action : Action)
+      → AreNamed names (members_of action)
+      → typed_reading base served action kept ≡ typed_reading base served action all
   unfolding typed_reading
   typed_reading-thin names kept all h action n =
-      ap (λ o. option_map_or (values_reading base served action) o (refuses Serialization)) (typed_members-thin names kept all h (members_of action) n)
+      ap (λ o. option_map_or (values_reading base served action) o (refuses Serialization))
+      (typed_members-thin names kept all h (members_of action) n)
       ∙ reading_at action (typed_members (members_of action) all)
 
   -- a body asks for the same as what is kept of it by the names of the action's members
-  pub body_reading-thin : (names : List (List ℕ)) (action : Action) (kept all : Option Data) → AreNamed names (members_of action) → IsThinOf names kept all → body_reading base served action kept ≡ body_reading base served action all
+  pub body_reading-thin : (names : List (List ℕ)) (action : Action) (kept all : Option Data)
+      → AreNamed names (members_of action) → IsThinOf names kept all
+      → body_reading base served action kept ≡ body_reading base served action all
   body_reading-thin names action None None n h = refl
   body_reading-thin names action (Some kept) (Some all) n h = typed_reading-thin names kept all h action n
   body_reading-thin names action None (Some all) n h = absurd h

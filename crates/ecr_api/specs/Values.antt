@@ -38,7 +38,7 @@ row_of values = map valued_of values
 abbrev pub member_as : (Data → Option members.Typed) → List ℕ → Data → Option members.Typed
 member_as reads name body = option_map_or reads (member_at name body) (Some members.absent)
 
--- what is made
+-- the call that the values make, as it is defined
 abbrev pub made_of : Made → actions.Made
 made_of (One call) = actions.one call
 made_of Several = actions.several

@@ -260,7 +260,8 @@ fn write_text(out: &mut Writer, member: &str, text: &str) -> Result<(), Mem>
 
 /// Writes a member that is a whole number.
 fn write_whole(out: &mut Writer, member: &str, number: u64) -> Result<(), Mem>
-    ensures ok { OnOk result (out.new.tokens ≡ out.old.tokens ++ token.key member.now ∷ token.number (decimal number) ∷ []) }
+    ensures ok { OnOk result (out.new.tokens ≡ out.old.tokens ++ token.key member.now ∷ token.number
+        (decimal number) ∷ []) }
     ensures before { out.new.before ≡ out.old.before }
 {
     out.key(member)?;

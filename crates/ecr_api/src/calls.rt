@@ -38,7 +38,8 @@ pub(crate) fn made_by(
     action: Action,
     values: &[Valued<'_>],
 ) -> Result<Asked, Mem>
-    ensures exact { IfOk result (λ asked. asks (meaning asked) ≡ made_by base.now served.now action (row_of values.now)) }
+    ensures exact { IfOk result
+        (λ asked. asks (meaning asked) ≡ made_by base.now served.now action (row_of values.now)) }
     ensures fits { IfOk result LoadFits }
 {
     match made_in(action, values) {
@@ -92,7 +93,8 @@ fn several(
     served: &[SiteId],
     values: &[Valued<'_>],
 ) -> Result<Asked, Mem>
-    ensures { IfOk result (λ asked. asked ≡ (let vs = row_of values.now in Many (site_in base.now served.now vs) (names_in vs) (page_in vs))) }
+    ensures { IfOk result (λ asked. asked ≡
+        (let vs = row_of values.now in Many (site_in base.now served.now vs) (names_in vs) (page_in vs))) }
 {
     let site = site_in(base, served, values).clone()?;
     let names = names_in(alloc, values)?;

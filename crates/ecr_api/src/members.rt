@@ -32,7 +32,8 @@ fn first_bad_of<'a>(
     values: &[Valued<'a>],
 ) -> Option<Parameter>
     requires { AreApart (row_of values.now) }
-    ensures { result ≡ option_map (λ v. v.member.parameter) (find (is_bad base.now served.now (row_of all.now)) (row_of values.now)) }
+    ensures { result ≡ option_map (λ v. v.member.parameter)
+        (find (is_bad base.now served.now (row_of all.now)) (row_of values.now)) }
 {
     match values {
         [valued, rest @ ..] => if is_bad(base, served, all, valued) {

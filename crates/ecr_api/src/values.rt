@@ -60,7 +60,8 @@ fn read_members<'a>(
     values: &mut Vec<Valued<'a>>,
 ) -> Result<bool, Mem>
     requires { AreMembers members.now }
-    ensures { IfOk result (λ right. option_map (λ more. row_of values.old.items ++ more) (all_typed members.now (view body.entry.now))
+    ensures { IfOk result (λ right. option_map (λ more. row_of values.old.items ++ more)
+        (all_typed members.now (view body.entry.now))
         ≡ (if right then Some (row_of values.new.items) else None)) }
 {
     match members {
@@ -78,7 +79,8 @@ fn read_members<'a>(
 /// The member with its value; `None` where it has another type.
 fn typed_member<'a>(body: &'a Value, member: &Member) -> Option<Valued<'a>>
     requires { IsMember member.now.parameter }
-    ensures { option_map valued_of result ≡ option_map (model.valued member.now) (typed_member (view body.entry.now) member.now) }
+    ensures { option_map valued_of result ≡ option_map (model.valued member.now)
+        (typed_member (view body.entry.now) member.now) }
 {
     let name = parameter_text(member.parameter);
     let value = read_typed(member.domain, body, name)?;
@@ -106,7 +108,8 @@ fn read_typed<'a>(domain: Domain, body: &'a Value, name: &str) -> Option<Typed<'
 /// The member of that name, where it is a text.
 #[tactic(auto)]
 fn typed_text<'a>(body: &'a Value, name: &str) -> Option<Typed<'a>>
-    ensures { option_map typed_of result ≡ member_as (λ v. option_map model.text (as_str v)) name.now (view body.entry.now) }
+    ensures { option_map typed_of result ≡ member_as (λ v. option_map model.text (as_str v)) name.now
+        (view body.entry.now) }
 {
     match text(body, name) {
         Field::Absent => Some(Typed::Absent),
@@ -118,7 +121,8 @@ fn typed_text<'a>(body: &'a Value, name: &str) -> Option<Typed<'a>>
 /// The member of that name, where it is a whole number.
 #[tactic(auto)]
 fn typed_whole<'a>(body: &'a Value, name: &str) -> Option<Typed<'a>>
-    ensures { option_map typed_of result ≡ member_as (λ v. option_map model.whole (as_whole v)) name.now (view body.entry.now) }
+    ensures { option_map typed_of result ≡ member_as (λ v. option_map model.whole (as_whole v)) name.now
+        (view body.entry.now) }
 {
     match whole(body, name) {
         Field::Absent => Some(Typed::Absent),
@@ -130,7 +134,8 @@ fn typed_whole<'a>(body: &'a Value, name: &str) -> Option<Typed<'a>>
 /// The member of that name, where it is a truth value.
 #[tactic(auto)]
 fn typed_truth<'a>(body: &'a Value, name: &str) -> Option<Typed<'a>>
-    ensures { option_map typed_of result ≡ member_as (λ v. option_map model.truth (as_bool v)) name.now (view body.entry.now) }
+    ensures { option_map typed_of result ≡ member_as (λ v. option_map model.truth (as_bool v)) name.now
+        (view body.entry.now) }
 {
     match truth(body, name) {
         Field::Absent => Some(Typed::Absent),
@@ -141,7 +146,8 @@ fn typed_truth<'a>(body: &'a Value, name: &str) -> Option<Typed<'a>>
 
 /// The member of that name, where it is a list of texts.
 fn typed_texts<'a>(body: &'a Value, name: &str) -> Option<Typed<'a>>
-    ensures { option_map typed_of result ≡ member_as (λ v. option_map model.texts (option_and_then all_texts (as_array v))) name.now (view body.entry.now) }
+    ensures { option_map typed_of result ≡ member_as
+        (λ v. option_map model.texts (option_and_then all_texts (as_array v))) name.now (view body.entry.now) }
 {
     match list(body, name) {
         Field::Absent => Some(Typed::Absent),

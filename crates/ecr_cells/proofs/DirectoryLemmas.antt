@@ -20,13 +20,16 @@ use Rattle.ecr_cells.specs.Deeds.{is_new}
 use Rattle.ecr_cells.specs.Turns.{turn_in_directory, IsDirectoryTurn}
 
 -- past all tickets of a sound journal a turn is decided by the directory that the journal leads to
-turn_in_directory-now : (d : SiteJournal) (ticket : ℕ) (ask : Ask) → directories.IsSound (frame_of_journal d) d.journal → past d.journal ≤ ticket
+turn_in_directory-now : (d : SiteJournal) (ticket : ℕ) (ask : Ask)
+    → directories.IsSound (frame_of_journal d) d.journal → past d.journal ≤ ticket
     → turn_in_directory d ticket ask ≡ directory_turn (frame_of_journal d) (directory_of d) ask
 turn_in_directory-now d ticket ask sound later =
-    ap (λ s. directory_turn (frame_of_journal d) s ask) (the_last_is_now (after_line (frame_of_journal d)) first_directory d.journal ticket sound later)
+    ap (λ s. directory_turn (frame_of_journal d) s ask)
+    (the_last_is_now (after_line (frame_of_journal d)) first_directory d.journal ticket sound later)
 
 pub IsDirectoryTurn-knows : (d : SiteJournal) (ticket caller : ℕ) (name : Name) (is : Bool)
-    → directories.IsSound (frame_of_journal d) d.journal → past d.journal ≤ ticket → is ≡ is_registered name (directory_of d)
+    → directories.IsSound (frame_of_journal d) d.journal → past d.journal ≤ ticket
+    → is ≡ is_registered name (directory_of d)
     → IsDirectoryTurn d d ticket caller (knows name) (done.Known is)
 IsDirectoryTurn-knows d ticket caller name is sound later same = record {
   told_is = ap known same ∙ sym (ap (λ t. t.told) (turn_in_directory-now d ticket (knows name) sound later));
@@ -39,11 +42,14 @@ pub IsDirectoryTurn-register : (d after : SiteJournal) (ticket caller : ℕ) (na
     → r ≡ registration_in d name → after ≡ after_register d ticket caller name
     → IsDirectoryTurn d after ticket caller (register name) (done.Registered r)
 IsDirectoryTurn-register d after ticket caller name r sound later same left =
-    let now : turn_in_directory d ticket (register name) ≡ registers name (registration_in d name) = turn_in_directory-now d ticket (register name) sound later in
+    let now : turn_in_directory d ticket (register name) ≡ registers name (registration_in d name) =
+    turn_in_directory-now d ticket (register name) sound later in
     record {
       told_is = told name r ∙ ap (λ x. (registers name x).told) same ∙ sym (ap (λ t. t.told) now);
-      changes_is = entry name r ∙ ap (λ x. is_some (registers name x).entry) same ∙ sym (ap (λ t. is_some t.entry) now);
-      left = left ∙ entered d ticket caller name (registration_in d name) ∙ sym (ap (λ t. record d { journal = lines_after caller ticket d.journal t.entry }) now);
+      changes_is = entry name r ∙ ap (λ x. is_some (registers name x).entry) same
+          ∙ sym (ap (λ t. is_some t.entry) now);
+      left = left ∙ entered d ticket caller name (registration_in d name)
+          ∙ sym (ap (λ t. record d { journal = lines_after caller ticket d.journal t.entry }) now);
     } where
       told : (name : Name) (r : Registered) → registered r ≡ (registers name r).told
       told name New = refl
@@ -56,7 +62,8 @@ IsDirectoryTurn-register d after ticket caller name r sound later same left =
       entry name (Full limit count) = refl
 
       entered : (d : SiteJournal) (ticket caller : ℕ) (name : Name) (r : Registered)
-          → sites.entered r d (line_of ticket caller name) ≡ record d { journal = lines_after caller ticket d.journal (registers name r).entry }
+          → sites.entered r d (line_of ticket caller name)
+          ≡ record d { journal = lines_after caller ticket d.journal (registers name r).entry }
       entered d ticket caller name New = refl
       entered d ticket caller name Known = refl
       entered d ticket caller name (Full limit count) = refl
@@ -66,13 +73,19 @@ pub IsDirectoryTurn-site_call : (d : SiteJournal) (ticket caller : ℕ) (c : Sit
     → reply ≡ (outcome_in d c).reply → (outcome_in d c).act ≡ None
     → IsDirectoryTurn d d ticket caller (site_call c) (done.Listed reply)
 IsDirectoryTurn-site_call d ticket caller c reply sound later same asks =
-    let now : turn_in_directory d ticket (site_call c) ≡ acts (outcome_in d c) = turn_in_directory-now d ticket (site_call c) sound later in
+    let now : turn_in_directory d ticket (site_call c) ≡ acts (outcome_in d c) =
+    turn_in_directory-now d ticket (site_call c) sound later in
     record {
       told_is = ap listed same ∙ sym (ap (λ t. t.told) now);
-      changes_is = sym (ap (λ t. is_some t.entry) now ∙ ap (λ (a : Option Act). is_some (option_map directories.entry_of a)) asks);
+      changes_is = sym (ap (λ t. is_some t.entry) now
+          ∙ ap (λ (a : Option Act). is_some (option_map directories.entry_of a)) asks);
       left = sym (ap (λ t. record d { journal = lines_after caller ticket d.journal t.entry }) now
-          ∙ ap (λ (a : Option Act). record d { journal = lines_after caller ticket d.journal (option_map directories.entry_of a) }) asks);
+          ∙ ap (λ (a : Option Act). record d {
+            journal = lines_after caller ticket d.journal
+                (option_map directories.entry_of a);
+          }) asks);
     }
 
-pub IsDirectoryTurn-call : (d : SiteJournal) (ticket caller : ℕ) (beside : Beside) (c : Call) → IsDirectoryTurn d d ticket caller (call beside c) done.Nothing
+pub IsDirectoryTurn-call : (d : SiteJournal) (ticket caller : ℕ) (beside : Beside) (c : Call)
+    → IsDirectoryTurn d d ticket caller (call beside c) done.Nothing
 IsDirectoryTurn-call d ticket caller beside c = record { told_is = refl; changes_is = refl; left = refl }

@@ -24,7 +24,8 @@ is_some-option_map : {A B : Type 0} (f : A → B) (o : Option A) → is_some (op
 is_some-option_map f None = refl
 is_some-option_map f (Some a) = refl
 
-pub IsRepositoryTurn-call : (s after : State) (ticket caller moment : ℕ) (given : Option (List ℕ)) (c : Call) (out : Outcome)
+pub IsRepositoryTurn-call : (s after : State) (ticket caller moment : ℕ) (given : Option (List ℕ)) (c : Call)
+    (out : Outcome)
     → IsSound s.key s.limits s.journal → past s.journal ≤ ticket
     → out.reply ≡ reply_to s (turn_at ticket moment []) c
     → out.changed ≡ changes s (turn_at ticket moment []) c
@@ -34,7 +35,8 @@ IsRepositoryTurn-call s after ticket caller moment given c out sound later reply
     let turn : Turn = turn_at ticket moment [] in
     let turned : Turned = replies turn c (outcome_of s turn c) in
     let now : turn_in_repository s ticket (call (beside_of given moment) c) ≡ turned =
-    ap (λ r. replies turn c (step s.key s.limits r turn c)) (the_last_is_now (after_line s.key s.limits) first_state s.journal ticket sound later) in
+    ap (λ r. replies turn c (step s.key s.limits r turn c))
+    (the_last_is_now (after_line s.key s.limits) first_state s.journal ticket sound later) in
     record {
       told_is = ap (λ r. replied r None) reply_is ∙ sym (ap (λ t. t.told) now);
       changes_is = changed_is
@@ -44,19 +46,24 @@ IsRepositoryTurn-call s after ticket caller moment given c out sound later reply
           ∙ entered s ticket caller turn c refl (outcome_of s turn c).after
           ∙ sym (ap (λ t. record s { journal = lines_after caller ticket s.journal t.entry }) now);
     } where
-      entered : (s : State) (ticket caller : ℕ) (turn : Turn) (c : Call) → turn.ticket ≡ ticket → (o : Option kept.Repository)
+      entered : (s : State) (ticket caller : ℕ) (turn : Turn) (c : Call) → turn.ticket ≡ ticket
+          → (o : Option kept.Repository)
           → (if is_some o then with_entry s (line_of caller turn c) else s)
           ≡ record s { journal = lines_after caller ticket s.journal (option_map (λ r. entry_of turn c) o) }
       entered s ticket caller turn c is None = refl
-      entered s ticket caller turn c is (Some r) = ap (λ n. with_entry s (record { ticket = n; caller = caller; entry = entry_of turn c })) is
+      entered s ticket caller turn c is (Some r) =
+          ap (λ n. with_entry s (record { ticket = n; caller = caller; entry = entry_of turn c })) is
 
-pub IsRepositoryTurn-knows : (s : State) (ticket caller : ℕ) (name : Name) → IsRepositoryTurn s s ticket caller (knows name) done.Nothing
+pub IsRepositoryTurn-knows : (s : State) (ticket caller : ℕ) (name : Name)
+    → IsRepositoryTurn s s ticket caller (knows name) done.Nothing
 IsRepositoryTurn-knows s ticket caller name = record { told_is = refl; changes_is = refl; left = refl }
 
-pub IsRepositoryTurn-register : (s : State) (ticket caller : ℕ) (name : Name) → IsRepositoryTurn s s ticket caller (register name) done.Nothing
+pub IsRepositoryTurn-register : (s : State) (ticket caller : ℕ) (name : Name)
+    → IsRepositoryTurn s s ticket caller (register name) done.Nothing
 IsRepositoryTurn-register s ticket caller name = record { told_is = refl; changes_is = refl; left = refl }
 
-pub IsRepositoryTurn-site_call : (s : State) (ticket caller : ℕ) (c : SiteCall) → IsRepositoryTurn s s ticket caller (site_call c) done.Nothing
+pub IsRepositoryTurn-site_call : (s : State) (ticket caller : ℕ) (c : SiteCall)
+    → IsRepositoryTurn s s ticket caller (site_call c) done.Nothing
 IsRepositoryTurn-site_call s ticket caller c = record { told_is = refl; changes_is = refl; left = refl }
 
 -- the turn of the next ticket, by caller 0
@@ -65,11 +72,16 @@ pub IsNextTurn-made : (before after : State) (ticket : ℕ) (ask : Ask) (d : Don
     → place ≡ record { cell = Repository before.key; ticket = ticket; changed = deeds.changes d }
     → IsNextTurn before after ask (told_of d) place
 IsNextTurn-made before after ticket ask d place is turn placed =
-    let next : IsRepositoryTurn before after (past before.journal) 0 ask d = subst (λ (n : ℕ). IsRepositoryTurn before after n 0 ask d) (sym is) turn in
+    let next : IsRepositoryTurn before after (past before.journal) 0 ask d =
+    subst (λ (n : ℕ). IsRepositoryTurn before after n 0 ask d) (sym is) turn in
     record {
       told_is = next.told_is;
       placed = placed
           ∙ ap (λ n. record { cell = Repository before.key; ticket = n; changed = deeds.changes d }) (sym is)
-          ∙ ap (λ b. record { cell = Repository before.key; ticket = past before.journal; changed = b }) next.changes_is;
+          ∙ ap (λ b. record {
+            cell = Repository before.key;
+            ticket = past before.journal;
+            changed = b;
+          }) next.changes_is;
       left = next.left;
     }

@@ -40,16 +40,21 @@ pub Ran-took : (before after : StillState) (cell : CellKey) (ask : Ask) (told : 
     → AreSound before.realm before.world.journals → Took before after cell ask told place
     → MadeTurn (seen_by before) (seen_by after) cell ask told place
 Ran-took before after cell ask told place sound took =
-    Runs-ran before after (turn cell ask (λ t. ends t)) told (place ∷ []) sound (Runs-took before after cell ask told place took)
+    Runs-ran before after (turn cell ask (λ t. ends t)) told (place ∷ []) sound
+    (Runs-took before after cell ask told place took)
 
 -- a turn and then an answer
-Ran-turn : {A : Type 0} (before after : DeskState) (cell : CellKey) (ask : Ask) (told : Told) (place : Place) (answer : Told → A)
-    → MadeTurn before after cell ask told place → Ran before after (turn cell ask (λ t. ends (answer t))) (answer told) (place ∷ [])
+Ran-turn : {A : Type 0} (before after : DeskState) (cell : CellKey) (ask : Ask) (told : Told) (place : Place)
+    (answer : Told → A)
+    → MadeTurn before after cell ask told place
+    → Ran before after (turn cell ask (λ t. ends (answer t))) (answer told) (place ∷ [])
 unfolding then_do
 Ran-turn before after cell ask told place answer made =
-    Ran-then before after after (turn cell ask (λ t. ends t)) (λ t. ends (answer t)) told (answer told) (place ∷ []) [] made (Ran-ends after (answer told))
+    Ran-then before after after (turn cell ask (λ t. ends t)) (λ t. ends (answer t)) told (answer told)
+    (place ∷ []) [] made (Ran-ends after (answer told))
 
-pub Ran-first_turn : (before after : DeskState) (key : RepoKey) (c : Call) (site : SiteId) (ask : Ask) (told : Told) (place : Place)
+pub Ran-first_turn : (before after : DeskState) (key : RepoKey) (c : Call) (site : SiteId) (ask : Ask) (told : Told)
+    (place : Place)
     → site ≡ key.site → ask ≡ first_ask key.name c
     → MadeTurn before after (Directory site) ask told place
     → Ran before after (first_turn key c) told (place ∷ [])
@@ -59,12 +64,14 @@ Ran-first_turn before after key c site ask told place at asks took =
     (subst (λ (a : Ask). MadeTurn before after (Directory key.site) a told place) asks
     (subst (λ (s : SiteId). MadeTurn before after (Directory s) ask told place) at took))
 
-pub Ran-cell_turn : (before after : DeskState) (key copy : RepoKey) (c : Call) (given : Option (List ℕ)) (moment : ℕ) (told : Told) (place : Place)
+pub Ran-cell_turn : (before after : DeskState) (key copy : RepoKey) (c : Call) (given : Option (List ℕ)) (moment : ℕ)
+    (told : Told) (place : Place)
     → copy ≡ key → MadeTurn before after (Repository copy) (call (beside_of given moment) c) told place
     → Ran before after (cell_turn key c given moment) (reply_told told) (place ∷ [])
 Ran-cell_turn before after key copy c given moment told place at took =
     Ran-turn before after (Repository key) (call (beside_of given moment) c) told place reply_told
-    (subst (λ (k : RepoKey). MadeTurn before after (Repository k) (call (beside_of given moment) c) told place) at took)
+    (subst (λ (k : RepoKey). MadeTurn before after (Repository k)
+    (call (beside_of given moment) c) told place) at took)
 
 pub Ran-site_script : (before after : DeskState) (site copy : SiteId) (c : SiteCall) (told : Told) (place : Place)
     → copy ≡ site → MadeTurn before after (Directory copy) (site_call c) told place
@@ -77,7 +84,8 @@ Ran-site_script before after site copy c told place at took =
 -- ---- the first turn
 
 -- where nothing refuses it, the turn in the repository follows
-pub then_cell-goes_on : (key : RepoKey) (c : Call) (given : Option (List ℕ)) (moment : ℕ) (told : Done) → refusal_of told ≡ None
+pub then_cell-goes_on : (key : RepoKey) (c : Call) (given : Option (List ℕ)) (moment : ℕ) (told : Done)
+    → refusal_of told ≡ None
     → cell_turn key c given moment ≡ then_cell key c given moment (told_of told)
 unfolding then_cell
 then_cell-goes_on key c given moment (done.Known true) is = refl
@@ -89,7 +97,8 @@ then_cell-goes_on key c given moment (done.Listed reply) is = cc
 then_cell-goes_on key c given moment (done.Replied out) is = cc
 then_cell-goes_on key c given moment done.Nothing is = cc
 
-pub then_cell-ends : (key : RepoKey) (c : Call) (given : Option (List ℕ)) (moment : ℕ) (told : Done) (refusal : Refusal) → refusal_of told ≡ Some refusal
+pub then_cell-ends : (key : RepoKey) (c : Call) (given : Option (List ℕ)) (moment : ℕ) (told : Done)
+    (refusal : Refusal) → refusal_of told ≡ Some refusal
     → ends (plain (Refused refusal)) ≡ then_cell key c given moment (told_of told)
 unfolding then_cell
 then_cell-ends key c given moment (done.Known true) refusal is = cc

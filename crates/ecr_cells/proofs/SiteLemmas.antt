@@ -33,7 +33,8 @@ past_from-push low [] line = refl
 past_from-push low (l ∷ ls) line = past_from-push (suc l.ticket) ls line
 
 -- a turn keeps the tickets at 0, 1, 2, ..
-pub numbered-after : (lines : List Line) (entry : Option Entry) → past lines ≡ length lines → past (lines_after 0 (past lines) lines entry) ≡ length (lines_after 0 (past lines) lines entry)
+pub numbered-after : (lines : List Line) (entry : Option Entry) → past lines ≡ length lines
+    → past (lines_after 0 (past lines) lines entry) ≡ length (lines_after 0 (past lines) lines entry)
 numbered-after lines None numbered = numbered
 numbered-after lines (Some entry) numbered =
     let line : Line = record { ticket = past lines; caller = 0; entry = entry } in
@@ -56,13 +57,16 @@ name-self a = is_eq-name_order a a ∙ bytes_eq-self a.text
 
 -- ---- repositories
 
-pub AreOfSite-put : (limits : Limits) (d : SiteJournal) (repositories news : List (Name × State)) (name : Name) (state : State)
-    → AreOfSite limits d repositories → IsOfName d name state → Puts repositories news name state → AreOfSite limits d news
+pub AreOfSite-put : (limits : Limits) (d : SiteJournal) (repositories news : List (Name × State)) (name : Name)
+    (state : State)
+    → AreOfSite limits d repositories → IsOfName d name state → Puts repositories news name state
+    → AreOfSite limits d news
 AreOfSite-put limits d repositories news name state held is puts = record {
   limited = held.limited;
   numbered = held.numbered;
   named = λ q. subst (λ (o : Option State). IfSome o (IsOfName d q)) (sym (puts q))
-      (cond_both (is_at (name_order name) q) (Some state) (state_of repositories q) (λ (o : Option State). IfSome o (IsOfName d q))
+      (cond_both (is_at (name_order name) q) (Some state) (state_of repositories q)
+      (λ (o : Option State). IfSome o (IsOfName d q))
       (λ same. subst (λ (n : Name). IsOfName d n state) (name-same name q same) is)
       (λ apart. held.named q));
 }
@@ -77,12 +81,14 @@ IsQuiet-put d repositories news name state is puts = record {
 } where
   quiet : (d : SiteJournal) (repositories news : List (Name × State)) (name : Name) (state : State)
       → lines_of_name repositories name ≡ state.journal → Puts repositories news name state
-      → (cell : CellKey) → lines_of (record { directory = d; repositories = news }) cell ≡ lines_of (record { directory = d; repositories = repositories }) cell
+      → (cell : CellKey) → lines_of (record { directory = d; repositories = news }) cell ≡ lines_of
+      (record { directory = d; repositories = repositories }) cell
   quiet d repositories news name state is puts (Directory site) = refl
   quiet d repositories news name state is puts (Repository key) =
       let of : Option State → List Line = λ o. option_map_or (λ (r : State). r.journal) o [] in
       ap of (puts key.name)
-      ∙ cond_both (is_at (name_order name) key.name) (Some state) (state_of repositories key.name) (λ (o : Option State). of o ≡ lines_of_name repositories key.name)
+      ∙ cond_both (is_at (name_order name) key.name) (Some state) (state_of repositories key.name)
+      (λ (o : Option State). of o ≡ lines_of_name repositories key.name)
       (λ same. sym is ∙ ap (lines_of_name repositories) (name-same name key.name same))
       (λ apart. refl)
 
@@ -90,21 +96,27 @@ IsQuiet-put d repositories news name state is puts = record {
 
 -- with another journal of the directory, each state is that of its name as before
 pub AreOfSite-entered : (limits : Limits) (d : SiteJournal) (repositories : List (Name × State)) (entry : Option Entry)
-    → AreOfSite limits d repositories → AreOfSite limits (record d { journal = lines_after 0 (past d.journal) d.journal entry }) repositories
+    → AreOfSite limits d repositories → AreOfSite limits
+    (record d { journal = lines_after 0 (past d.journal) d.journal entry }) repositories
 AreOfSite-entered limits d repositories entry held = record {
   limited = held.limited;
   numbered = numbered-after d.journal entry held.numbered;
-  named = λ name. moved d (lines_after 0 (past d.journal) d.journal entry) name (state_of repositories name) (held.named name);
+  named = λ name. moved d (lines_after 0 (past d.journal) d.journal entry) name (state_of repositories name)
+      (held.named name);
 } where
-  moved : (d : SiteJournal) (journal : List Line) (name : Name) (o : Option State) → IfSome o (IsOfName d name) → IfSome o (IsOfName (record d { journal = journal }) name)
+  moved : (d : SiteJournal) (journal : List Line) (name : Name) (o : Option State) → IfSome o (IsOfName d name)
+      → IfSome o (IsOfName (record d { journal = journal }) name)
   moved d journal name None is = is
   moved d journal name (Some state) is = record { key = is.key; limits = is.limits; numbered = is.numbered }
 
 -- after the next turn in the directory too
-pub AreOfSite-turned : (limits : Limits) (d after : SiteJournal) (repositories : List (Name × State)) (ticket : ℕ) (ask : Ask) (x : Done)
-    → AreOfSite limits d repositories → past d.journal ≡ ticket → IsDirectoryTurn d after ticket 0 ask x → AreOfSite limits after repositories
+pub AreOfSite-turned : (limits : Limits) (d after : SiteJournal) (repositories : List (Name × State)) (ticket : ℕ)
+    (ask : Ask) (x : Done)
+    → AreOfSite limits d repositories → past d.journal ≡ ticket → IsDirectoryTurn d after ticket 0 ask x
+    → AreOfSite limits after repositories
 AreOfSite-turned limits d after repositories ticket ask x are is turn =
-    let next : IsDirectoryTurn d after (past d.journal) 0 ask x = subst (λ (n : ℕ). IsDirectoryTurn d after n 0 ask x) (sym is) turn in
+    let next : IsDirectoryTurn d after (past d.journal) 0 ask x =
+    subst (λ (n : ℕ). IsDirectoryTurn d after n 0 ask x) (sym is) turn in
     subst (λ (j : SiteJournal). AreOfSite limits j repositories) (sym next.left)
     (AreOfSite-entered limits d repositories (turn_in_directory d (past d.journal) ask).entry are)
 
@@ -120,10 +132,15 @@ IsTurn-directory before after id ticket ask d place is at turn placed others_are
     let lines : List Line = directory.journal in
     let next : IsDirectoryTurn directory after.directory (past lines) 0 ask d =
     subst (λ (n : ℕ). IsDirectoryTurn directory after.directory n 0 ask d) (sym is) turn in
-    let same : turn_in_directory directory (past lines) ask ≡ turn_after (realm_of directory) (Directory id) lines ask =
+    let same : turn_in_directory directory (past lines) ask ≡ turn_after (realm_of directory)
+    (Directory id) lines ask =
     ap (λ s. turn_in_directory (record directory { site = s }) (past lines) ask) at in
     record {
-      same = record { site = ap (λ j. j.site) next.left; served = ap (λ j. j.served) next.left; limits = ap (λ j. j.limits) next.left };
+      same = record {
+        site = ap (λ j. j.site) next.left;
+        served = ap (λ j. j.served) next.left;
+        limits = ap (λ j. j.limits) next.left;
+      };
       told_is = next.told_is ∙ ap (λ t. t.told) same;
       placed = placed
           ∙ ap (λ n. record { cell = Directory id; ticket = n; changed = changes d }) (sym is)
@@ -132,17 +149,21 @@ IsTurn-directory before after id ticket ask d place is at turn placed others_are
       entered = ap (λ j. j.journal) next.left ∙ ap (λ t. lines_after 0 (past lines) lines t.entry) same;
       others = others before after id at others_are;
     } where
-      others : (before after : Site) (id : SiteId) → before.directory.site ≡ id → after.repositories ≡ before.repositories
-          → (other : CellKey) → same_cell (Directory id) other ≡ false → site_of other ≡ before.directory.site → lines_of after other ≡ lines_of before other
+      others : (before after : Site) (id : SiteId) → before.directory.site ≡ id
+          → after.repositories ≡ before.repositories
+          → (other : CellKey) → same_cell (Directory id) other ≡ false → site_of other ≡ before.directory.site
+          → lines_of after other ≡ lines_of before other
       others before after id at others_are (Directory q) apart there =
           let same : same_site id q ≡ true = ap (same_site id) (there ∙ at) ∙ same_site-self id in
           absurd (both_ways (same_site id q) apart same)
-      others before after id at others_are (Repository key) apart there = ap (λ rs. lines_of_name rs key.name) others_are
+      others before after id at others_are (Repository key) apart there =
+          ap (λ rs. lines_of_name rs key.name) others_are
 
 -- ---- turns in a repository
 
 -- a name that was never used has this state
-pub IsOfName-new : (d : SiteJournal) (key : RepoKey) (limits : Limits) (state : State) → limits ≡ d.limits → d.site ≡ key.site
+pub IsOfName-new : (d : SiteJournal) (key : RepoKey) (limits : Limits) (state : State) → limits ≡ d.limits
+    → d.site ≡ key.site
     → state ≡ record { key = key; limits = limits; journal = [] } → IsOfName d key.name state
 IsOfName-new d key limits state same at is = record {
   key = ap (λ s. s.key) is ∙ ap (λ s. key_at s key.name) (sym at);
@@ -150,16 +171,21 @@ IsOfName-new d key limits state same at is = record {
   numbered = ap (λ s. past s.journal) is ∙ ap (λ s. length s.journal) (sym is);
 }
 
-pub lines_of_name-none : (repositories : List (Name × State)) (name : Name) → state_of repositories name ≡ None → lines_of_name repositories name ≡ []
+pub lines_of_name-none : (repositories : List (Name × State)) (name : Name) → state_of repositories name ≡ None
+    → lines_of_name repositories name ≡ []
 lines_of_name-none repositories name absent = ap (λ o. option_map_or (λ (r : State). r.journal) o []) absent
 
-pub lines_of_name-some : (repositories : List (Name × State)) (name : Name) (state : State) → state_of repositories name ≡ Some state → lines_of_name repositories name ≡ state.journal
+pub lines_of_name-some : (repositories : List (Name × State)) (name : Name) (state : State)
+    → state_of repositories name ≡ Some state → lines_of_name repositories name ≡ state.journal
 lines_of_name-some repositories name state found = ap (λ o. option_map_or (λ (r : State). r.journal) o []) found
 
-pub IsTurn-repository : (d : SiteJournal) (repositories news : List (Name × State)) (key : RepoKey) (state after : State) (ask : Ask) (told : Told) (place : Place)
-    → d.site ≡ key.site → lines_of_name repositories key.name ≡ state.journal → IsOfName d key.name state → Puts repositories news key.name after
+pub IsTurn-repository : (d : SiteJournal) (repositories news : List (Name × State)) (key : RepoKey)
+    (state after : State) (ask : Ask) (told : Told) (place : Place)
+    → d.site ≡ key.site → lines_of_name repositories key.name ≡ state.journal → IsOfName d key.name state
+    → Puts repositories news key.name after
     → IsNextTurn state after ask told place
-    → IsTurn (record { directory = d; repositories = repositories }) (record { directory = d; repositories = news }) (Repository key) ask told place
+    → IsTurn (record { directory = d; repositories = repositories }) (record { directory = d; repositories = news })
+    (Repository key) ask told place
 unfolding turn_at
 IsTurn-repository d repositories news key state after ask told place at lines_are is puts turn =
     let lines : List Line = lines_of_name repositories key.name in
@@ -177,21 +203,27 @@ IsTurn-repository d repositories news key state after ask told place at lines_ar
           ∙ ap (λ k. place_of (Repository k) (past state.journal) now) key_is
           ∙ ap (λ ls. place_of (Repository key) (past ls) now) (sym lines_are)
           ∙ sym (ap (λ t. place_of (Repository key) (past lines) t) same);
-      entered = ap of (puts key.name ∙ cond-true (is_at (name_order key.name) key.name) (Some after) (state_of repositories key.name) (name-self key.name))
+      entered = ap of (puts key.name ∙ cond-true (is_at (name_order key.name) key.name) (Some after)
+          (state_of repositories key.name) (name-self key.name))
           ∙ ap (λ s. s.journal) turn.left
           ∙ ap (λ ls. lines_after 0 (past ls) ls now.entry) (sym lines_are)
           ∙ sym (ap (λ t. lines_after 0 (past lines) lines t.entry) same);
       others = others d repositories news key after at puts;
     } where
-      others : (d : SiteJournal) (repositories news : List (Name × State)) (key : RepoKey) (after : State) → d.site ≡ key.site → Puts repositories news key.name after
+      others : (d : SiteJournal) (repositories news : List (Name × State)) (key : RepoKey) (after : State)
+          → d.site ≡ key.site → Puts repositories news key.name after
           → (other : CellKey) → same_cell (Repository key) other ≡ false → site_of other ≡ d.site
-          → lines_of (record { directory = d; repositories = news }) other ≡ lines_of (record { directory = d; repositories = repositories }) other
+          → lines_of (record { directory = d; repositories = news }) other ≡ lines_of
+          (record { directory = d; repositories = repositories }) other
       others d repositories news key after at puts (Directory q) apart there = refl
       others d repositories news key after at puts (Repository l) apart there =
           let of : Option State → List Line = λ o. option_map_or (λ (r : State). r.journal) o [] in
-          let site : same_site key.site l.site ≡ true = ap (same_site key.site) (there ∙ at) ∙ same_site-self key.site in
+          let site : same_site key.site l.site ≡ true =
+          ap (same_site key.site) (there ∙ at) ∙ same_site-self key.site in
           ap of (puts l.name)
-          ∙ cond_both (is_at (name_order key.name) l.name) (Some after) (state_of repositories l.name) (λ (o : Option State). of o ≡ lines_of_name repositories l.name)
+          ∙ cond_both (is_at (name_order key.name) l.name) (Some after) (state_of repositories l.name)
+          (λ (o : Option State). of o ≡ lines_of_name repositories l.name)
           (λ same. absurd (both_ways (same_key key l) apart
-          (and_from (bytes_eq key.name.text l.name.text) (same_site key.site l.site) (sym (is_eq-name_order key.name l.name) ∙ same) site)))
+          (and_from (bytes_eq key.name.text l.name.text) (same_site key.site l.site)
+          (sym (is_eq-name_order key.name l.name) ∙ same) site)))
           (λ differs. refl)

@@ -35,7 +35,11 @@ pub record Desk : Type 0 where
 
 -- the sites and limits, the journals, and the number of entries of a desk
 abbrev pub seen_of : Desk → StillState
-seen_of desk = record { realm = record { served = desk.served; limits = desk.limits }; world = world_of desk.sites; made = desk.made }
+seen_of desk = record {
+  realm = record { served = desk.served; limits = desk.limits };
+  world = world_of desk.sites;
+  made = desk.made;
+}
 
 -- the same as its caller sees it, which is alone
 abbrev pub state_of : Desk → DeskState
@@ -61,26 +65,31 @@ pub record IsServed (sites : List (SiteId × Site)) (site : SiteId) : Type 0 whe
 
 -- a site with no name
 abbrev pub empty_site : List SiteId → Limits → SiteId → Site
-empty_site served limits site = record { directory = record { site = site; served = served; limits = limits; journal = [] }; repositories = [] }
+empty_site served limits site =
+    record { directory = record { site = site; served = served; limits = limits; journal = [] }; repositories = [] }
 
 -- each site has no name, and no journal has a line
 abbrev pub AreEmpty : List SiteId → Limits → List (SiteId × Site) → Type 0
-AreEmpty served limits sites = (site : SiteId) → IfSome (site_at sites site) (λ kept. kept ≡ empty_site served limits site)
+AreEmpty served limits sites = (site : SiteId)
+    → IfSome (site_at sites site) (λ kept. kept ≡ empty_site served limits site)
 
 -- the site has no name from now on, and the other sites are as before
 abbrev pub Adds : List (SiteId × Site) → List (SiteId × Site) → SiteId → List SiteId → Limits → Type 0
 Adds sites news site served limits = (other : SiteId)
-    → site_at news other ≡ cond (is_at (site_order site) other) (Some (empty_site served limits site)) (site_at sites other)
+    → site_at news other ≡ cond (is_at (site_order site) other) (Some (empty_site served limits site))
+    (site_at sites other)
 
 -- ---- turns
 
 -- only the cells of that site changed, from the first to the second
 pub record Changes (sites news : List (SiteId × Site)) (site : SiteId) (before after : Site) : Type 0 where
   pub was : site_at sites site ≡ Some before
-  pub updates : (other : SiteId) → site_at news other ≡ cond (is_at (site_order site) other) (Some after) (site_at sites other)
+  pub updates : (other : SiteId) → site_at news other ≡ cond (is_at (site_order site) other) (Some after)
+      (site_at sites other)
 
 -- the next turn in a cell, by caller 0: its answer, its place, and the cells of its site afterwards
-pub record Turns (sites news : List (SiteId × Site)) (cell : CellKey) (ask : Ask) (told : Told) (place : Place) : Type 0 where
+pub record Turns (sites news : List (SiteId × Site)) (cell : CellKey) (ask : Ask) (told : Told)
+    (place : Place) : Type 0 where
   pub before : Site
   pub after : Site
   pub changes : Changes sites news (site_of cell) before after

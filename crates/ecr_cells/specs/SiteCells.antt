@@ -71,8 +71,12 @@ turn_after realm cell lines ask = turn_at realm cell lines (past lines) None ask
 -- the next turn in the repository, by caller 0: its answer, its place, and the journal afterwards
 pub record IsNextTurn (before after : State) (ask : Ask) (told : Told) (place : Place) : Type 0 where
   pub told_is : told ≡ (turn_in_repository before (past before.journal) ask).told
-  pub placed : place ≡ place_of (Repository before.key) (past before.journal) (turn_in_repository before (past before.journal) ask)
-  pub left : after ≡ record before { journal = lines_after 0 (past before.journal) before.journal (turn_in_repository before (past before.journal) ask).entry }
+  pub placed : place ≡ place_of (Repository before.key) (past before.journal)
+      (turn_in_repository before (past before.journal) ask)
+  pub left : after ≡ record before {
+    journal = lines_after 0 (past before.journal) before.journal
+        (turn_in_repository before (past before.journal) ask).entry;
+  }
 
 -- the site, the served sites and the limits are as before
 pub record IsSame (before after : SiteJournal) : Type 0 where
@@ -89,6 +93,9 @@ pub record IsQuiet (before after : Site) : Type 0 where
 pub record IsTurn (before after : Site) (cell : CellKey) (ask : Ask) (told : Told) (place : Place) : Type 0 where
   pub same : IsSame before.directory after.directory
   pub told_is : told ≡ (turn_after (realm_of before.directory) cell (lines_of before cell) ask).told
-  pub placed : place ≡ place_of cell (past (lines_of before cell)) (turn_after (realm_of before.directory) cell (lines_of before cell) ask)
-  pub entered : lines_of after cell ≡ lines_after 0 (past (lines_of before cell)) (lines_of before cell) (turn_after (realm_of before.directory) cell (lines_of before cell) ask).entry
-  pub others : (other : CellKey) → same_cell cell other ≡ false → site_of other ≡ before.directory.site → lines_of after other ≡ lines_of before other
+  pub placed : place ≡ place_of cell (past (lines_of before cell))
+      (turn_after (realm_of before.directory) cell (lines_of before cell) ask)
+  pub entered : lines_of after cell ≡ lines_after 0 (past (lines_of before cell)) (lines_of before cell)
+      (turn_after (realm_of before.directory) cell (lines_of before cell) ask).entry
+  pub others : (other : CellKey) → same_cell cell other ≡ false → site_of other ≡ before.directory.site
+      → lines_of after other ≡ lines_of before other

@@ -9,7 +9,8 @@ use Rattle.ecr_cells.specs.Deeds.{told_of, changes}
 
 -- the turn of that ticket in the directory
 abbrev pub turn_in_directory : SiteJournal → ℕ → Ask → Turned
-turn_in_directory d ticket ask = directory_turn (frame_of_journal d) (directory_at (frame_of_journal d) d.journal ticket) ask
+turn_in_directory d ticket ask =
+    directory_turn (frame_of_journal d) (directory_at (frame_of_journal d) d.journal ticket) ask
 
 -- the turn of that ticket in the repository
 abbrev pub turn_in_repository : State → ℕ → Ask → Turned
@@ -20,10 +21,16 @@ turn_in_repository s ticket ask = repository_turn s.key s.limits s.journal ticke
 pub record IsDirectoryTurn (before after : SiteJournal) (ticket caller : ℕ) (ask : Ask) (done : Done) : Type 0 where
   pub told_is : told_of done ≡ (turn_in_directory before ticket ask).told
   pub changes_is : changes done ≡ is_some (turn_in_directory before ticket ask).entry
-  pub left : after ≡ record before { journal = lines_after caller ticket before.journal (turn_in_directory before ticket ask).entry }
+  pub left : after ≡ record before {
+    journal = lines_after caller ticket before.journal
+        (turn_in_directory before ticket ask).entry;
+  }
 
 -- likewise in the repository
 pub record IsRepositoryTurn (before after : State) (ticket caller : ℕ) (ask : Ask) (done : Done) : Type 0 where
   pub told_is : told_of done ≡ (turn_in_repository before ticket ask).told
   pub changes_is : changes done ≡ is_some (turn_in_repository before ticket ask).entry
-  pub left : after ≡ record before { journal = lines_after caller ticket before.journal (turn_in_repository before ticket ask).entry }
+  pub left : after ≡ record before {
+    journal = lines_after caller ticket before.journal
+        (turn_in_repository before ticket ask).entry;
+  }

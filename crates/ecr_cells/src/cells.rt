@@ -58,7 +58,8 @@ pub(crate) fn make(
 ) -> Result<(Done, Place), Mem>
     requires served { IsServed cells.old.entries (site_of cell) }
     requires fits { Fits deed }
-    ensures turned { IfOk result (λ t. Turns cells.old.entries cells.new.entries cell (ask_of deed) (told_of t.0) t.1) }
+    ensures turned { IfOk result
+        (λ t. Turns cells.old.entries cells.new.entries cell (ask_of deed) (told_of t.0) t.1) }
     ensures contents { IfOk result (λ t. HasContents t.0) }
     ensures err { OnErr result (Rests cells.old.entries cells.new.entries (site_of cell)) }
 {

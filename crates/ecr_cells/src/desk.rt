@@ -47,7 +47,12 @@ impl Model for SoloDesk {
 impl SoloDesk {
     /// A registry that serves these sites, with no name. A site that stands twice among them is one.
     pub fn new(alloc: Global, sites: Vec<SiteId>, limits: Limits) -> Result<SoloDesk, Mem>
-        ensures fresh { IfOk result (λ d. seen_of d ≡ record { realm = record { served = sites.items; limits = limits }; world = fresh; made = 0 }) }
+        ensures fresh { IfOk result
+            (λ d. seen_of d ≡ record {
+              realm = record { served = sites.items; limits = limits };
+              world = fresh;
+              made = 0;
+            }) }
     {
         let served = Listed::from_vec(sites);
         let cells = cells_of(alloc, &served, limits)?;
@@ -63,7 +68,9 @@ impl SoloDesk {
     fn make(&mut self, alloc: Global, cell: CellKey, deed: Deed) -> Result<(Done, Place), Mem>
         requires served { Contains self.old.served (site_of cell) }
         requires fits { Fits deed }
-        ensures ran { IfOk result (λ t. Ran (state_of self.old) (state_of self.new) (turn cell (ask_of deed) (λ told. ends told)) (told_of t.0) (t.1 ∷ [])) }
+        ensures ran { IfOk result
+            (λ t. Ran (state_of self.old) (state_of self.new) (turn cell (ask_of deed) (λ told. ends told))
+            (told_of t.0) (t.1 ∷ [])) }
         ensures contents { IfOk result (λ t. HasContents t.0) }
         ensures err { OnErr result (seen_of self.new ≡ seen_of self.old) }
     {
@@ -84,7 +91,9 @@ impl SoloDesk {
         call: &Call,
     ) -> Result<(Done, Place), Mem>
         requires served { Contains self.old.served key.now.site }
-        ensures ran { IfOk result (λ t. Ran (state_of self.old) (state_of self.new) (scripts.first_turn key.now call.now) (told_of t.0) (t.1 ∷ [])) }
+        ensures ran { IfOk result
+            (λ t. Ran (state_of self.old) (state_of self.new) (scripts.first_turn key.now call.now) (told_of t.0)
+            (t.1 ∷ [])) }
         ensures err { OnErr result (seen_of self.new ≡ seen_of self.old) }
     {
         let site = copy_of(&key.site)?;
@@ -105,7 +114,9 @@ impl SoloDesk {
     ) -> Result<(Outcome, Option<Place>), Mem>
         requires served { Contains self.old.served key.now.site }
         requires fits { FitsCall call load }
-        ensures ran { IfOk result (λ t. Ran (state_of self.old) (state_of self.new) (scripts.then_cell key.now call (given load) moment (told_of told)) (plain t.0.reply) (places_of t.1)) }
+        ensures ran { IfOk result
+            (λ t. Ran (state_of self.old) (state_of self.new)
+            (scripts.then_cell key.now call (given load) moment (told_of told)) (plain t.0.reply) (places_of t.1)) }
         ensures contents { IfOk result (λ t. AreContents t.0.reply t.0.blobs.items) }
         ensures err { OnErr result (seen_of self.new ≡ seen_of self.old) }
     {
@@ -126,7 +137,9 @@ impl SoloDesk {
     ) -> Result<(Outcome, Option<Place>), Mem>
         requires served { Contains self.old.served key.now.site }
         requires fits { FitsCall call load }
-        ensures ran { IfOk result (λ t. Ran (state_of self.old) (state_of self.new) (scripts.cell_turn key.now call (given load) moment) (plain t.0.reply) (places_of t.1)) }
+        ensures ran { IfOk result
+            (λ t. Ran (state_of self.old) (state_of self.new) (scripts.cell_turn key.now call (given load) moment)
+            (plain t.0.reply) (places_of t.1)) }
         ensures contents { IfOk result (λ t. AreContents t.0.reply t.0.blobs.items) }
         ensures err { OnErr result (seen_of self.new ≡ seen_of self.old) }
     {

@@ -36,7 +36,15 @@ impl Model for SiteCells {
 impl SiteCells {
     /// A site with no name, of a registry that serves these sites.
     pub(crate) fn new(alloc: Global, site: SiteId, served: Vec<SiteId>, limits: Limits) -> SiteCells
-        ensures { result ≡ record { directory = record { site = site; served = served.items; limits = limits; journal = [] }; repositories = [] } }
+        ensures { result ≡ record {
+          directory = record {
+            site = site;
+            served = served.items;
+            limits = limits;
+            journal = [];
+          };
+          repositories = [];
+        } }
     {
         SiteCells {
             limits,

@@ -19,20 +19,23 @@ use Rattle.ecr_desk.specs.Desks.{DeskState, StillState, terms_of, seen_by, still
 -- ---- a caller that is alone
 
 -- a desk that is seen so is still
-still-same : (desk : DeskState) (journals : Journals) → desk.alone ≡ true → desk.views ≡ views_of journals → IsStill desk
+still-same : (desk : DeskState) (journals : Journals) → desk.alone ≡ true → desk.views ≡ views_of journals
+    → IsStill desk
 still-same desk journals alone views =
     ap (λ b. record { realm = desk.realm; alone = b; views = desk.views; parts = desk.parts; made = desk.made }) alone
     ∙ ap (λ v. record { realm = desk.realm; alone = true; views = v; parts = desk.parts; made = desk.made })
     (views ∙ ap (λ (v : Views). views_of (journals_of v)) (sym views))
 
 -- what it has, where its journals are those
-world-same : (desk : DeskState) (world : World) → desk.views ≡ views_of world.journals → desk.parts ≡ world.parts → (still_of desk).world ≡ world
+world-same : (desk : DeskState) (world : World) → desk.views ≡ views_of world.journals → desk.parts ≡ world.parts
+    → (still_of desk).world ≡ world
 world-same desk world views parts =
     ap (λ (v : Views). record { journals = journals_of v; parts = desk.parts }) views
     ∙ ap (λ (p : Parts). record { journals = world.journals; parts = p }) parts
 
 -- the turns of a still desk are those of a run
-pub record IsAlone {A : Type 0} (before after : DeskState) (script : Script A) (answer : A) (places : List Place) : Type 0 where
+pub record IsAlone {A : Type 0} (before after : DeskState) (script : Script A) (answer : A)
+    (places : List Place) : Type 0 where
   pub still : IsStill after
   pub runs : Runs (still_of before) (still_of after) script answer places
 
@@ -48,9 +51,11 @@ Ran-runs {A} before after script answer places still ran =
     let is : IsRun A desk.realm desk.world script after.views ran.turns answer =
     visits_run desk.realm desk.world after.views script ran.turns answer visited in
     let placed : places ≡ (run_on desk script).places = ran.placed ∙ is.places_are in
-    let entries : count_changed places ≡ (run_on desk script).entries = ap count_changed placed ∙ count_changed-run desk.realm desk.world script in
+    let entries : count_changed places ≡ (run_on desk script).entries =
+    ap count_changed placed ∙ count_changed-run desk.realm desk.world script in
     record {
-      still = still-same after (run_on desk script).world.journals (ran.alone_stays ∙ ap (λ (s : DeskState). s.alone) still) is.leaves;
+      still = still-same after (run_on desk script).world.journals
+          (ran.alone_stays ∙ ap (λ (s : DeskState). s.alone) still) is.leaves;
       runs = record {
         realm_stays = ran.realm_stays;
         left = world-same after (run_on desk script).world is.leaves (ran.parts_are still);
@@ -66,11 +71,15 @@ pub Runs-ran : {A : Type 0} (before after : StillState) (script : Script A) (ans
     → Ran (seen_by before) (seen_by after) script answer places
 Runs-ran before after script answer places sound runs =
     let all = run_on before script in
-    let visited : Visits (alone_in before.realm) (views_of before.world.journals) (views_of after.world.journals) script (unsealed all.places) answer =
-    subst (λ a. Visits (alone_in before.realm) (views_of before.world.journals) (views_of after.world.journals) script (unsealed all.places) a) (sym runs.answered)
-    (subst (λ (w : World). Visits (alone_in before.realm) (views_of before.world.journals) (views_of w.journals) script (unsealed all.places) all.answer) (sym runs.left)
+    let visited : Visits (alone_in before.realm) (views_of before.world.journals)
+    (views_of after.world.journals) script (unsealed all.places) answer =
+    subst (λ a. Visits (alone_in before.realm) (views_of before.world.journals) (views_of after.world.journals) script
+    (unsealed all.places) a) (sym runs.answered)
+    (subst (λ (w : World). Visits (alone_in before.realm) (views_of before.world.journals)
+    (views_of w.journals) script (unsealed all.places) all.answer) (sym runs.left)
     (runs_visit before.realm before.world script sound)) in
-    let entries : count_changed places ≡ all.entries = ap count_changed runs.placed ∙ count_changed-run before.realm before.world script in
+    let entries : count_changed places ≡ all.entries =
+    ap count_changed runs.placed ∙ count_changed-run before.realm before.world script in
     record {
       realm_stays = runs.realm_stays;
       alone_stays = refl;
@@ -91,24 +100,31 @@ halts-still before now script turns still halted =
     (subst (λ (v : Views). Halts (alone_in desk.realm) v now script turns) (ap (λ (s : DeskState). s.views) still)
     (subst (λ (t : Terms). Halts t before.views now script turns) (ap terms_of still) halted))
 
-pub Stopped-runs_to : {A : Type 0} (before after : DeskState) (script : Script A) → IsStill before → (stopped : Stopped before after script)
+pub Stopped-runs_to : {A : Type 0} (before after : DeskState) (script : Script A) → IsStill before
+    → (stopped : Stopped before after script)
     → RunsTo (still_of before) (still_of after) script (places_of stopped.turns)
 Stopped-runs_to {A} before after script still stopped =
     let desk : StillState = still_of before in
-    let first : IsFirst A desk.realm desk.world script after.views stopped.turns = halts-still before after.views script stopped.turns still stopped.halted in
+    let first : IsFirst A desk.realm desk.world script after.views stopped.turns =
+    halts-still before after.views script stopped.turns still stopped.halted in
     record {
       realm_stays = stopped.realm_stays;
-      left = world-same after (run_to (count_changed (places_of stopped.turns)) desk.realm desk.world script) first.leaves (stopped.parts_are still);
+      left = world-same after (run_to
+          (count_changed (places_of stopped.turns)) desk.realm desk.world script) first.leaves
+          (stopped.parts_are still);
       counted = stopped.counted;
       rest = first.rest;
       placed = first.places_are;
     }
 
 -- it stays still
-pub Stopped-still : {A : Type 0} (before after : DeskState) (script : Script A) → IsStill before → Stopped before after script → IsStill after
+pub Stopped-still : {A : Type 0} (before after : DeskState) (script : Script A) → IsStill before
+    → Stopped before after script → IsStill after
 Stopped-still {A} before after script still stopped =
-    let first : IsFirst A before.realm (still_of before).world script after.views stopped.turns = halts-still before after.views script stopped.turns still stopped.halted in
-    still-same after (run_to (count_changed (places_of stopped.turns)) before.realm (still_of before).world script).journals
+    let first : IsFirst A before.realm (still_of before).world script after.views stopped.turns =
+    halts-still before after.views script stopped.turns still stopped.halted in
+    still-same after (run_to (count_changed (places_of stopped.turns)) before.realm
+    (still_of before).world script).journals
     (stopped.alone_stays ∙ ap (λ (s : DeskState). s.alone) still) first.leaves
 
 -- ---- one script and then another
@@ -127,12 +143,15 @@ Ran-ends seen answer = record {
 }
 
 -- the terms stay
-pub terms-same : (before mid : DeskState) → mid.realm ≡ before.realm → mid.alone ≡ before.alone → terms_of mid ≡ terms_of before
+pub terms-same : (before mid : DeskState) → mid.realm ≡ before.realm → mid.alone ≡ before.alone
+    → terms_of mid ≡ terms_of before
 terms-same before mid realm alone =
-    ap (λ r. record { realm = r; alone = mid.alone }) realm ∙ ap (λ b. record { realm = before.realm; alone = b }) alone
+    ap (λ r. record { realm = r; alone = mid.alone }) realm
+    ∙ ap (λ b. record { realm = before.realm; alone = b }) alone
 
 -- what stood on the desk in between is what the first script left
-same_run : {A B : Type 0} (before mid : StillState) (script : Script A) (next : A → Script B) (a : A) (places : List Place)
+same_run : {A B : Type 0} (before mid : StillState) (script : Script A) (next : A → Script B) (a : A)
+    (places : List Place)
     → Runs before mid script a places
     → run_on mid (next a) ≡ run before.realm (run_on before script).world (next (run_on before script).answer)
 same_run before mid script next a places runs =
@@ -141,23 +160,28 @@ same_run before mid script next a places runs =
     ∙ ap (λ x. run before.realm (run_on before script).world (next x)) runs.answered
 
 -- the entries of both
-pub counted-then : (one other last : ℕ) (first second : List Place) → other ≡ one + count_changed first → last ≡ other + count_changed second
+pub counted-then : (one other last : ℕ) (first second : List Place) → other ≡ one + count_changed first
+    → last ≡ other + count_changed second
     → last ≡ one + count_changed (first ++ second)
 counted-then one other last first second p q = omega (arith, p, q, count_changed-append first second)
 
 -- both scripts ran
-pub Ran-then : {A B : Type 0} (before mid after : DeskState) (script : Script A) (next : A → Script B) (a : A) (b : B) (first second : List Place)
+pub Ran-then : {A B : Type 0} (before mid after : DeskState) (script : Script A) (next : A → Script B) (a : A) (b : B)
+    (first second : List Place)
     → Ran before mid script a first → Ran mid after (next a) b second
     → Ran before after (then_do script next) b (first ++ second)
 Ran-then before mid after script next a b first second one other =
-    let both : RunsThen before.realm (still_of before).world script next = run-then_do before.realm (still_of before).world script next in
+    let both : RunsThen before.realm (still_of before).world script next =
+    run-then_do before.realm (still_of before).world script next in
     record {
       realm_stays = other.realm_stays ∙ one.realm_stays;
       alone_stays = other.alone_stays ∙ one.alone_stays;
       turns = one.turns ++ other.turns;
       visited = visits_then (terms_of before) before.views mid.views after.views script next one.turns other.turns a b one.visited
-          (subst (λ (t : Terms). Visits t mid.views after.views (next a) other.turns b) (terms-same before mid one.realm_stays one.alone_stays) other.visited);
-      placed = ap (λ ps. ps ++ second) one.placed ∙ ap (λ ps. places_of one.turns ++ ps) other.placed ∙ sym (places_of-append one.turns other.turns);
+          (subst (λ (t : Terms). Visits t mid.views after.views (next a) other.turns b)
+          (terms-same before mid one.realm_stays one.alone_stays) other.visited);
+      placed = ap (λ ps. ps ++ second) one.placed ∙ ap (λ ps. places_of one.turns ++ ps) other.placed
+          ∙ sym (places_of-append one.turns other.turns);
       counted = counted-then before.made mid.made after.made first second one.counted other.counted;
       parts_are = λ still.
           let alone = Ran-runs before mid script a first still one in
@@ -167,13 +191,15 @@ Ran-then before mid after script next a b first second one other =
     }
 
 -- the first places of a run add no more entries than all
-pub first_places-le : {A : Type 0} (desk : StillState) (script : Script A) (places rest : List Place) → (run_on desk script).places ≡ places ++ rest
+pub first_places-le : {A : Type 0} (desk : StillState) (script : Script A) (places rest : List Place)
+    → (run_on desk script).places ≡ places ++ rest
     → count_changed places ≤ (run_on desk script).entries
 first_places-le desk script places rest is =
     omega (arith, count_changed-run desk.realm desk.world script, ap count_changed is, count_changed-append places rest)
 
 -- the entries of a whole run and more
-pub all_entries : {A : Type 0} (desk : StillState) (script : Script A) (places one more all : List Place) → places ≡ (run_on desk script).places → places ≡ one
+pub all_entries : {A : Type 0} (desk : StillState) (script : Script A) (places one more all : List Place)
+    → places ≡ (run_on desk script).places → places ≡ one
     → all ≡ one ++ more → (run_on desk script).entries + count_changed more ≡ count_changed all
 all_entries desk script places one more all run_is one_is all_is =
     omega (arith, count_changed-run desk.realm desk.world script, ap count_changed run_is, ap count_changed one_is, ap count_changed all_is, count_changed-append one more)
@@ -190,20 +216,24 @@ Stopped-first before after script next stopped = record {
   parts_are = λ still.
       let first = Stopped-runs_to before after script still stopped in
       stopped.parts_are still
-      ∙ ap (λ (w : World). w.parts) (sym (run_to-first (count_changed (places_of stopped.turns)) before.realm (still_of before).world script next
+      ∙ ap (λ (w : World). w.parts)
+      (sym (run_to-first (count_changed (places_of stopped.turns)) before.realm (still_of before).world script next
       (first_places-le (still_of before) script (places_of stopped.turns) first.rest first.placed)));
 }
 
 -- the first one ran, and the second one stopped
-unfoldable pub Stopped-then : {A B : Type 0} (before mid after : DeskState) (script : Script A) (next : A → Script B) (a : A) (first : List Place)
+unfoldable pub Stopped-then : {A B : Type 0} (before mid after : DeskState) (script : Script A) (next : A → Script B)
+    (a : A) (first : List Place)
     → Ran before mid script a first → Stopped mid after (next a) → Stopped before after (then_do script next)
 Stopped-then before mid after script next a first one stopped = record {
   realm_stays = stopped.realm_stays ∙ one.realm_stays;
   alone_stays = stopped.alone_stays ∙ one.alone_stays;
   turns = one.turns ++ stopped.turns;
   halted = halts_then (terms_of before) before.views mid.views after.views script next one.turns stopped.turns a one.visited
-      (subst (λ (t : Terms). Halts t mid.views after.views (next a) stopped.turns) (terms-same before mid one.realm_stays one.alone_stays) stopped.halted);
-  counted = counted-then before.made mid.made after.made (places_of one.turns) (places_of stopped.turns) (one.counted ∙ ap (λ ps. before.made + count_changed ps) one.placed) stopped.counted
+      (subst (λ (t : Terms). Halts t mid.views after.views (next a) stopped.turns)
+      (terms-same before mid one.realm_stays one.alone_stays) stopped.halted);
+  counted = counted-then before.made mid.made after.made (places_of one.turns) (places_of stopped.turns)
+      (one.counted ∙ ap (λ ps. before.made + count_changed ps) one.placed) stopped.counted
       ∙ ap (λ ps. before.made + count_changed ps) (sym (places_of-append one.turns stopped.turns));
   parts_are = λ still.
       let desk : StillState = still_of before in
@@ -215,26 +245,34 @@ Stopped-then before mid after script next a first one stopped = record {
       ∙ ap (λ x. (run_to more desk.realm (run_on desk script).world (next x)).parts) alone.runs.answered
       ∙ ap (λ (w : World). w.parts) (sym (run_to-then more desk.realm desk.world script next))
       ∙ ap (λ n. (run_to n desk.realm desk.world (then_do script next)).parts)
-      (all_entries desk script first (places_of one.turns) (places_of stopped.turns) (places_of (one.turns ++ stopped.turns)) alone.runs.placed one.placed (places_of-append one.turns stopped.turns));
+      (all_entries desk script first (places_of one.turns) (places_of stopped.turns)
+      (places_of (one.turns ++ stopped.turns)) alone.runs.placed one.placed
+      (places_of-append one.turns stopped.turns));
 }
 
 -- nothing was added
-unfoldable pub Stopped-none : {A : Type 0} (before after : DeskState) (script : Script A) → after ≡ before → Stopped before after script
+unfoldable pub Stopped-none : {A : Type 0} (before after : DeskState) (script : Script A) → after ≡ before
+    → Stopped before after script
 Stopped-none before after script same = record {
   realm_stays = ap (λ (s : DeskState). s.realm) same;
   alone_stays = ap (λ (s : DeskState). s.alone) same;
   turns = [];
-  halted = subst (λ (s : DeskState). Halts (terms_of before) before.views s.views script []) (sym same) (halts_here (terms_of before) before.views script);
+  halted = subst (λ (s : DeskState). Halts (terms_of before) before.views s.views script []) (sym same)
+      (halts_here (terms_of before) before.views script);
   counted = omega (arith, ap (λ (s : DeskState). s.made) same);
-  parts_are = λ still. ap (λ (s : DeskState). s.parts) same ∙ ap (λ (w : World). w.parts) (sym (run_to-none before.realm (still_of before).world script));
+  parts_are = λ still. ap (λ (s : DeskState). s.parts) same
+      ∙ ap (λ (w : World). w.parts) (sym (run_to-none before.realm (still_of before).world script));
 }
 
-pub StoppedWithin-none : {A : Type 0} (most : ℕ) (before after : DeskState) (script : Script A) → after ≡ before → StoppedWithin most before after script
+pub StoppedWithin-none : {A : Type 0} (most : ℕ) (before after : DeskState) (script : Script A) → after ≡ before
+    → StoppedWithin most before after script
 unfolding Stopped-none
-StoppedWithin-none most before after script same = record { stopped = Stopped-none before after script same; few = omega arith }
+StoppedWithin-none most before after script same =
+    record { stopped = Stopped-none before after script same; few = omega arith }
 
 -- a whole run that wasn't told is one that stopped at its end
-unfoldable pub Stopped-whole : {A : Type 0} (before after : DeskState) (script : Script A) (a : A) (places : List Place)
+unfoldable pub Stopped-whole : {A : Type 0} (before after : DeskState) (script : Script A) (a : A)
+    (places : List Place)
     → Ran before after script a places → Stopped before after script
 Stopped-whole before after script a places ran = record {
   realm_stays = ran.realm_stays;
@@ -253,7 +291,8 @@ Stopped-whole before after script a places ran = record {
 -- ---- a call on a repository
 
 -- a single turn was made
-one_turn : {A : Type 0} (terms : Terms) (was now : Views) (cell : CellKey) (ask : Ask) (answer : Told → A) (made : List Made) (a : A)
+one_turn : {A : Type 0} (terms : Terms) (was now : Views) (cell : CellKey) (ask : Ask) (answer : Told → A)
+    (made : List Made) (a : A)
     → Visits terms was now (turn cell ask (λ t. ends (answer t))) made a → length made ≡ 1
 unfolding Visits
 one_turn terms was now cell ask answer [] a v = absurd v
@@ -261,18 +300,25 @@ one_turn terms was now cell ask answer (m ∷ []) a v = refl
 one_turn terms was now cell ask answer (m ∷ (n ∷ ms)) a v = absurd v.2
 
 -- the turn in the directory was made, and no other
-pub Stopped-call : (before mid after : DeskState) (key : RepoKey) (c : Call) (given : Option (List ℕ)) (moment : ℕ) (told : Told) (places : List Place)
+pub Stopped-call : (before mid after : DeskState) (key : RepoKey) (c : Call) (given : Option (List ℕ)) (moment : ℕ)
+    (told : Told) (places : List Place)
     → Ran before mid (first_turn key c) told places → after ≡ mid
     → StoppedWithin 1 before after (call_script key c given moment)
 unfolding call_script first_turn Stopped-first Stopped-whole
 Stopped-call before mid after key c given moment told places ran same =
     subst (λ (s : DeskState). StoppedWithin 1 before s (call_script key c given moment)) (sym same) (record {
-      stopped = Stopped-first before mid (first_turn key c) (then_cell key c given moment) (Stopped-whole before mid (first_turn key c) told places ran);
-      few = omega (arith, one_turn (terms_of before) before.views mid.views _ (first_ask key.name c) (λ t. t) ran.turns told ran.visited);
+      stopped = Stopped-first before mid (first_turn key c) (then_cell key c given moment)
+          (Stopped-whole before mid (first_turn key c) told places ran);
+      few = omega (
+        arith,
+        one_turn (terms_of before) before.views mid.views _ (first_ask key.name c)
+            (λ t. t) ran.turns told ran.visited,
+      );
     })
 
 -- both turns were made
-pub Ran-call : (before mid after : DeskState) (key : RepoKey) (c : Call) (given : Option (List ℕ)) (moment : ℕ) (told : Told) (decided : Decided) (first second : List Place)
+pub Ran-call : (before mid after : DeskState) (key : RepoKey) (c : Call) (given : Option (List ℕ)) (moment : ℕ)
+    (told : Told) (decided : Decided) (first second : List Place)
     → Ran before mid (first_turn key c) told first → Ran mid after (then_cell key c given moment told) decided second
     → Ran before after (call_script key c given moment) decided (first ++ second)
 unfolding call_script

@@ -38,7 +38,11 @@ seen_by desk = record {
 
 -- the journals that were seen of a desk
 abbrev pub still_of : DeskState → StillState
-still_of desk = record { realm = desk.realm; world = record { journals = journals_of desk.views; parts = desk.parts }; made = desk.made }
+still_of desk = record {
+  realm = desk.realm;
+  world = record { journals = journals_of desk.views; parts = desk.parts };
+  made = desk.made;
+}
 
 -- the caller is alone, and has seen every journal whole
 abbrev pub IsStill : DeskState → Type 0
@@ -51,7 +55,8 @@ run_on desk script = run desk.realm desk.world script
 -- ---- calls
 
 -- all turns of the script were made, and no other: they came to this answer, at these places
-pub record Ran {A : Type 0} (before after : DeskState) (script : Script A) (answer : A) (places : List Place) : Type 0 where
+pub record Ran {A : Type 0} (before after : DeskState) (script : Script A) (answer : A)
+    (places : List Place) : Type 0 where
   pub realm_stays : after.realm ≡ before.realm
   pub alone_stays : after.alone ≡ before.alone
   pub turns : List Made
@@ -78,7 +83,8 @@ pub record StoppedWithin {A : Type 0} (most : ℕ) (before after : DeskState) (s
 -- ---- calls of a caller that is alone
 
 -- all turns of the script were made one after another, and no other: they came to this answer, at these places
-pub record Runs {A : Type 0} (before after : StillState) (script : Script A) (answer : A) (places : List Place) : Type 0 where
+pub record Runs {A : Type 0} (before after : StillState) (script : Script A) (answer : A)
+    (places : List Place) : Type 0 where
   pub realm_stays : after.realm ≡ before.realm
   pub left : after.world ≡ (run_on before script).world
   pub counted : after.made ≡ before.made + (run_on before script).entries

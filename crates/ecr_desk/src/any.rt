@@ -23,7 +23,8 @@ pub trait AnyDesk {
     /// A call on the directory of a served site. It has one turn, which without memory isn't made.
     fn registry(&mut self, alloc: Global, site: &SiteId, call: SiteCall) -> Result<SiteAnswer, Mem>
         requires served { Contains (seen self.old).realm.served site.now }
-        ensures ran { IfOk result (λ a. Ran (seen self.old) (seen self.new) (site_script site.now call) a.reply (a.place ∷ [])) }
+        ensures ran { IfOk result
+            (λ a. Ran (seen self.old) (seen self.new) (site_script site.now call) a.reply (a.place ∷ [])) }
         ensures stopped { OnErr result (StoppedWithin 0 (seen self.old) (seen self.new) (site_script site.now call)) };
 
     /// A call on a repository of a served site, with the content that comes with it.
@@ -40,8 +41,11 @@ pub trait AnyDesk {
     ) -> Result<Answer, Mem>
         requires served { Contains (seen self.old).realm.served key.now.site }
         requires fits { FitsCall call load }
-        ensures ran { IfOk result (λ a. Ran (seen self.old) (seen self.new) (call_script key.now call (given load) moment) (record { reply = a.reply; sealed = a.sealed }) a.places.items) }
-        ensures stopped { OnErr result (StoppedWithin 1 (seen self.old) (seen self.new) (call_script key.now call (given load) moment)) }
+        ensures ran { IfOk result
+            (λ a. Ran (seen self.old) (seen self.new) (call_script key.now call (given load) moment)
+            (record { reply = a.reply; sealed = a.sealed }) a.places.items) }
+        ensures stopped { OnErr result
+            (StoppedWithin 1 (seen self.old) (seen self.new) (call_script key.now call (given load) moment)) }
         ensures contents { IfOk result (λ a. AreContents a.reply a.blobs.items) };
 
     /// How many entries the caller has added, by all its calls. It takes no memory.
@@ -53,5 +57,6 @@ pub trait AnyDesk {
         ensures sites { result.now ≡ (seen self.now).realm.served }
 
         // A caller that is alone finds every journal sound.
-        ensures sound { (seen self.now).alone ≡ true → AreSound (seen self.now).realm (journals_of (seen self.now).views) };
+        ensures sound { (seen self.now).alone ≡ true
+            → AreSound (seen self.now).realm (journals_of (seen self.now).views) };
 }

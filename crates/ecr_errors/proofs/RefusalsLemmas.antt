@@ -10,36 +10,48 @@ use Rattle.ecr_model.specs.requests.Refusals.{with_last_byte, part_data, refusal
 
 -- ---- the member that isn't always there
 
-members_have_float-with_last_byte : (received : ℕ) (members : Members) → members_have_float (with_last_byte received members) ≡ members_have_float members
+members_have_float-with_last_byte : (received : ℕ) (members : Members)
+    → members_have_float (with_last_byte received members) ≡ members_have_float members
 members_have_float-with_last_byte received members = go (nat_lt 0 received)
   where
-    go : (some : Bool) → members_have_float (cond some (member (codes "lastValidByteReceived") (number (unsigned (received - 1))) members) members) ≡ members_have_float members
+    go : (some : Bool) → members_have_float
+        (cond some (member (codes "lastValidByteReceived") (number (unsigned (received - 1))) members) members)
+        ≡ members_have_float members
     go true = refl
     go false = refl
 
-members_depth-with_last_byte : (received : ℕ) (members : Members) → members_depth (with_last_byte received members) ≡ members_depth members
+members_depth-with_last_byte : (received : ℕ) (members : Members)
+    → members_depth (with_last_byte received members) ≡ members_depth members
 members_depth-with_last_byte received members = go (nat_lt 0 received)
   where
-    go : (some : Bool) → members_depth (cond some (member (codes "lastValidByteReceived") (number (unsigned (received - 1))) members) members) ≡ members_depth members
+    go : (some : Bool) → members_depth
+        (cond some (member (codes "lastValidByteReceived") (number (unsigned (received - 1))) members) members)
+        ≡ members_depth members
     go true = omega arith
     go false = refl
 
 -- ---- a refused part
 
-has_float-part_data : (refusal : Refusal) (received : ℕ) (key : RepoKey) (upload : ℕ) → has_float (part_data refusal received key upload) ≡ false
+has_float-part_data : (refusal : Refusal) (received : ℕ) (key : RepoKey) (upload : ℕ)
+    → has_float (part_data refusal received key upload) ≡ false
 has_float-part_data refusal received key upload = members_have_float-with_last_byte received _
 
-depth-part_data : (refusal : Refusal) (received : ℕ) (key : RepoKey) (upload : ℕ) → depth (part_data refusal received key upload) ≤ max_depth
+depth-part_data : (refusal : Refusal) (received : ℕ) (key : RepoKey) (upload : ℕ)
+    → depth (part_data refusal received key upload) ≤ max_depth
 depth-part_data refusal received key upload = omega (arith, members_depth-with_last_byte)
 
 -- ---- any refusal
 
-pub has_float-refusal_data : (refusal : Refusal) (key : Option RepoKey) (upload : Option ℕ) → has_float (refusal_data refusal key upload) ≡ false
+pub has_float-refusal_data : (refusal : Refusal) (key : Option RepoKey) (upload : Option ℕ)
+    → has_float (refusal_data refusal key upload) ≡ false
 unfolding refusal_data
-has_float-refusal_data (InvalidLayerPart received) (Some key) (Some upload) = has_float-part_data (InvalidLayerPart received) received key upload
+has_float-refusal_data (InvalidLayerPart received) (Some key) (Some upload) =
+    has_float-part_data (InvalidLayerPart received) received key upload
 has_float-refusal_data refusal key upload = refl
 
-pub depth-refusal_data : (refusal : Refusal) (key : Option RepoKey) (upload : Option ℕ) → depth (refusal_data refusal key upload) ≤ max_depth
+pub depth-refusal_data : (refusal : Refusal) (key : Option RepoKey) (upload : Option ℕ)
+    → depth (refusal_data refusal key upload) ≤ max_depth
 unfolding refusal_data
-depth-refusal_data (InvalidLayerPart received) (Some key) (Some upload) = depth-part_data (InvalidLayerPart received) received key upload
+depth-refusal_data (InvalidLayerPart received) (Some key) (Some upload) =
+    depth-part_data (InvalidLayerPart received) received key upload
 depth-refusal_data refusal key upload = omega arith

@@ -31,7 +31,8 @@ IsGot-start before now spent = record {
 }
 
 -- the buffer isn't looked at
-abbrev pub IsGot-rest : (before : Option (List ℕ)) (old : Intake) (after : Option (List ℕ)) (now : Intake) (buffer : List ℕ)
+abbrev pub IsGot-rest : (before : Option (List ℕ)) (old : Intake) (after : Option (List ℕ)) (now : Intake)
+    (buffer : List ℕ)
     → IsGot before old after now → IsGot before old after (rest_of buffer now)
 IsGot-rest before old after now buffer come = record {
   got = come.got;
@@ -41,7 +42,8 @@ IsGot-rest before old after now buffer come = record {
   kept = ap (rest_of buffer) come.kept;
 }
 
-abbrev pub IsGot-lengthened : (before : Option (List ℕ)) (old : Intake) (mid after : Option (List ℕ)) (now : Intake) (piece : List ℕ)
+abbrev pub IsGot-lengthened : (before : Option (List ℕ)) (old : Intake) (mid after : Option (List ℕ)) (now : Intake)
+    (piece : List ℕ)
     → IsGot before old mid now → Consumes mid after piece → now.total + length piece ≤ max_read
     → IsGot before old after (lengthened now piece)
 IsGot-lengthened before old mid after now piece come consumed fits = record {
@@ -73,7 +75,8 @@ Gathers-start size before now spent = record {
 }
 
 -- bytes went from the buffer to the body
-pub Gathers-moved : (size : ℕ) (before : Option (List ℕ)) (old : Intake) (after : Option (List ℕ)) (now : Intake) (body : List ℕ) (count : ℕ)
+pub Gathers-moved : (size : ℕ) (before : Option (List ℕ)) (old : Intake) (after : Option (List ℕ)) (now : Intake)
+    (body : List ℕ) (count : ℕ)
     → Gathers size before old after now body → length (body ++ take count now.buffer) ≤ size
     → Gathers size before old after (rest_of (drop count now.buffer) now) (body ++ take count now.buffer)
 Gathers-moved size before old after now body count g few = record {
@@ -84,7 +87,8 @@ Gathers-moved size before old after now body count g few = record {
 }
 
 -- bytes came
-pub Gathers-gains : (size : ℕ) (before : Option (List ℕ)) (old : Intake) (mid after : Option (List ℕ)) (now last : Intake) (body : List ℕ)
+pub Gathers-gains : (size : ℕ) (before : Option (List ℕ)) (old : Intake) (mid after : Option (List ℕ))
+    (now last : Intake) (body : List ℕ)
     → Gathers size before old mid now body → Gains mid now after last → Gathers size before old after last body
 Gathers-gains size before old mid after now last body g gains =
     subst (λ (x : Intake). Gathers size before old after x body) (sym gains.now_is) (record {
@@ -95,7 +99,8 @@ Gathers-gains size before old mid after now last body g gains =
     })
 
 -- none came
-pub Gathers-kept : (size : ℕ) (before : Option (List ℕ)) (old : Intake) (mid after : Option (List ℕ)) (now last : Intake) (body : List ℕ)
+pub Gathers-kept : (size : ℕ) (before : Option (List ℕ)) (old : Intake) (mid after : Option (List ℕ))
+    (now last : Intake) (body : List ℕ)
     → Gathers size before old mid now body → last ≡ now → Keeps mid after → Gathers size before old after last body
 Gathers-kept size before old mid after now last body g same kept =
     subst (λ (x : Intake). Gathers size before old after x body) (sym same) (record {
@@ -118,26 +123,39 @@ partial_from stops.Spent limit size bytes fits few = IsBody-sized_open limit siz
 partial_from stops.Mem limit size bytes fits few = tt
 
 -- a body that is whole was read
-pub Bodies-whole : (limit size : ℕ) (before : Option (List ℕ)) (old : Intake) (after : Option (List ℕ)) (now : Intake) (body : List ℕ)
+pub Bodies-whole : (limit size : ℕ) (before : Option (List ℕ)) (old : Intake) (after : Option (List ℕ)) (now : Intake)
+    (body : List ℕ)
     → size ≤ limit → (g : Gathers size before old after now body) → length body ≡ size
-    → IsBody limit (old.buffer ++ g.come.got) (Sized size) (complete body size) × (now.buffer ≡ drop size (old.buffer ++ g.come.got))
+    → IsBody limit (old.buffer ++ g.come.got) (Sized size) (complete body size)
+    × (now.buffer ≡ drop size (old.buffer ++ g.come.got))
 Bodies-whole limit size before old after now body fits g whole_size =
     let bytes = old.buffer ++ g.come.got in
     let there : size ≤ length bytes = omega (arith, ap length g.joined, length-append body now.buffer) in
     let front : take size bytes ≡ body =
-    ap (take size) (sym g.joined) ∙ ap (λ (n : ℕ). take n (body ++ now.buffer)) (sym whole_size) ∙ take-append_seam body now.buffer in
+    ap (take size) (sym g.joined) ∙ ap (λ (n : ℕ). take n (body ++ now.buffer)) (sym whole_size)
+    ∙ take-append_seam body now.buffer in
     let behind : drop size bytes ≡ now.buffer =
-    ap (drop size) (sym g.joined) ∙ ap (λ (n : ℕ). drop n (body ++ now.buffer)) (sym whole_size) ∙ drop-append_seam body now.buffer in
-    (subst (λ (l : List ℕ). IsBody limit bytes (Sized size) (complete l size)) front (IsBody-sized limit size bytes fits there), sym behind)
+    ap (drop size) (sym g.joined) ∙ ap (λ (n : ℕ). drop n (body ++ now.buffer)) (sym whole_size)
+    ∙ drop-append_seam body now.buffer in (
+      subst (λ (l : List ℕ). IsBody limit bytes (Sized size) (complete l size)) front
+          (IsBody-sized limit size bytes fits there),
+      sym behind,
+    )
 
 -- a body that isn't waits for more bytes
-pub Bodies-stopped : (limit size : ℕ) (before : Option (List ℕ)) (old : Intake) (after : Option (List ℕ)) (now : Intake) (body : List ℕ) (stop : Stop)
-    → size ≤ limit → Gathers size before old after now body → IsLess stop (length body + length now.buffer) size → IsStop stop after now.total
+pub Bodies-stopped : (limit size : ℕ) (before : Option (List ℕ)) (old : Intake) (after : Option (List ℕ))
+    (now : Intake) (body : List ℕ) (stop : Stop)
+    → size ≤ limit → Gathers size before old after now body → IsLess stop (length body + length now.buffer) size
+    → IsStop stop after now.total
     → Bodies limit (Sized size) before old after now (takens.Stopped stop)
 Bodies-stopped limit size before old after now body stop fits g few is =
     let count : length body + length now.buffer ≡ length (old.buffer ++ g.come.got) =
     sym (length-append body now.buffer) ∙ ap length g.joined in
     record {
       come = g.come;
-      shows = (partial_from stop limit size (old.buffer ++ g.come.got) fits (subst (λ (n : ℕ). IsLess stop n size) count few), is);
+      shows = (
+        partial_from stop limit size (old.buffer ++ g.come.got) fits
+            (subst (λ (n : ℕ). IsLess stop n size) count few),
+        is,
+      );
     }

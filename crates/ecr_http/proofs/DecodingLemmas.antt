@@ -29,7 +29,8 @@ use Rattle.ecr_http.proofs.BodyLemmas.{rest_of, IsGot-start, IsGot-rest, IsGot-l
 -- ---- a line
 
 -- a line that was read to its end is all that was read
-pub line-whole : (line : List ℕ) (len size : ℕ) (l k : ChunkLine) → IsChunkLineAt line len size l → ReadsChunkLine line k []
+pub line-whole : (line : List ℕ) (len size : ℕ) (l k : ChunkLine) → IsChunkLineAt line len size l
+    → ReadsChunkLine line k []
     → len ≡ length line
 line-whole line len size l k found reads =
     let same : l ≡ k = (chunk_line_unique line l k (drop len line) [] found.reads reads).0 in
@@ -37,7 +38,8 @@ line-whole line len size l k found reads =
     ∙ ap length (sym (append-nil (print_chunk_line k)) ∙ sym reads.1)
 
 -- a line that was taken of the buffer
-pub Says-taken : (buffer taken : List ℕ) (place : ℕ) (size : Option ℕ) → taken ≡ buffer → Says (take (place + 1) taken) size
+pub Says-taken : (buffer taken : List ℕ) (place : ℕ) (size : Option ℕ) → taken ≡ buffer
+    → Says (take (place + 1) taken) size
     → Says (take (suc place) buffer) size
 Says-taken buffer taken place size same says =
     let next : place + 1 ≡ suc place = omega arith in
@@ -45,13 +47,16 @@ Says-taken buffer taken place size same says =
 
 -- ---- more bytes come
 
-HasLine-more : (p : Progress) (others : List ℕ) (place size : ℕ) → HasLine p place size → HasLine (with_more p others) place size
+HasLine-more : (p : Progress) (others : List ℕ) (place size : ℕ) → HasLine p place size
+    → HasLine (with_more p others) place size
 HasLine-more p others place size line = record {
   ends = line_end-append p.ahead others place line.ends;
-  says = Says-append p.ahead others place (Some size) (omega (arith, (line_end-is p.ahead place line.ends).1)) line.says;
+  says = Says-append p.ahead others place (Some size)
+      (omega (arith, (line_end-is p.ahead place line.ends).1)) line.says;
 }
 
-StandsAt-more : (limit : ℕ) (p : Progress) (body buffer others : List ℕ) (stage : Stage) → StandsAt limit p body buffer stage
+StandsAt-more : (limit : ℕ) (p : Progress) (body buffer others : List ℕ) (stage : Stage)
+    → StandsAt limit p body buffer stage
     → StandsAt limit (with_more p others) body (buffer ++ others) stage
 StandsAt-more limit p body buffer others stages.Line stands = (stands.0, ap (λ (l : List ℕ). l ++ others) stands.1)
 StandsAt-more limit p body buffer others (stages.Data left) d = record {
@@ -76,7 +81,8 @@ StandsAt-more limit p body buffer others (stages.Trailers scanned) t = record {
   known = HasNoEnd-append buffer others scanned t.within t.known;
 }
 
-pub Decodes-gains : (limit : ℕ) (before : Option (List ℕ)) (old : Intake) (mid after : Option (List ℕ)) (now last : Intake)
+pub Decodes-gains : (limit : ℕ) (before : Option (List ℕ)) (old : Intake) (mid after : Option (List ℕ))
+    (now last : Intake)
     (body : List ℕ) (stage : Stage) → Decodes limit before old mid now body stage → Gains mid now after last
     → Decodes limit before old after last body stage
 Decodes-gains limit before old mid after now last body stage d gains =
@@ -92,14 +98,17 @@ Decodes-gains limit before old mid after now last body stage d gains =
 
 -- ---- none come
 
-IsPartial-from : (stop : Stop) (limit : ℕ) (bytes : List ℕ) → IsChunked limit bytes (lacks open_) → IsPartial stop limit bytes Chunked
+IsPartial-from : (stop : Stop) (limit : ℕ) (bytes : List ℕ) → IsChunked limit bytes (lacks open_)
+    → IsPartial stop limit bytes Chunked
 IsPartial-from stops.Ended limit bytes less = less
 IsPartial-from stops.Failed limit bytes less = less
 IsPartial-from stops.Spent limit bytes less = less
 IsPartial-from stops.Mem limit bytes less = tt
 
-pub Awaits-stops : (limit : ℕ) (before : Option (List ℕ)) (old : Intake) (mid after : Option (List ℕ)) (now last : Intake)
-    (body : List ℕ) (stage : Stage) (stop : Stop) → Awaits limit before old mid now body stage → last ≡ now → Keeps mid after
+pub Awaits-stops : (limit : ℕ) (before : Option (List ℕ)) (old : Intake) (mid after : Option (List ℕ))
+    (now last : Intake)
+    (body : List ℕ) (stage : Stage) (stop : Stop) → Awaits limit before old mid now body stage → last ≡ now
+    → Keeps mid after
     → IsStop stop after now.total → Decoded limit before old after last body (nexts.Stopped stop)
 Awaits-stops limit before old mid after now last body stage stop awaits same kept stops_ =
     subst (λ (x : Intake). Decoded limit before old after x body (nexts.Stopped stop)) (sym same) (record {
@@ -110,8 +119,10 @@ Awaits-stops limit before old mid after now last body stage stop awaits same kep
 -- ---- what is found
 
 -- nothing stands there, for a cause
-found_lack : (limit : ℕ) (before : Option (List ℕ)) (old : Intake) (after : Option (List ℕ)) (now : Intake) (body : List ℕ)
-    (stage : Stage) (lack : Lack) (d : Decodes limit before old after now body stage) → Comes limit d.progress (lacking lack)
+found_lack : (limit : ℕ) (before : Option (List ℕ)) (old : Intake) (after : Option (List ℕ)) (now : Intake)
+    (body : List ℕ)
+    (stage : Stage) (lack : Lack) (d : Decodes limit before old after now body stage)
+    → Comes limit d.progress (lacking lack)
     → IsChunked limit (old.buffer ++ d.come.got) (lacks lack)
 found_lack limit before old after now body stage lack d comes =
     IsChunked-lacks limit (old.buffer ++ d.come.got) d.chunks d.progress lack d.begins comes
@@ -125,8 +136,10 @@ line_part limit p body buffer part stands is =
     subst (λ (b : List ℕ). IsPart limit (length p.body) b part) stands.1
     (is (length p.body) (ap length (sym stands.0)))
 
-pub Line-awaits : (limit : ℕ) (before : Option (List ℕ)) (old : Intake) (after : Option (List ℕ)) (now : Intake) (body : List ℕ)
-    → line_end now.buffer ≡ None → length now.buffer < max_chunk_line → Decodes limit before old after now body stages.Line
+pub Line-awaits : (limit : ℕ) (before : Option (List ℕ)) (old : Intake) (after : Option (List ℕ)) (now : Intake)
+    (body : List ℕ)
+    → line_end now.buffer ≡ None → length now.buffer < max_chunk_line
+    → Decodes limit before old after now body stages.Line
     → Awaits limit before old after now body stages.Line
 Line-awaits limit before old after now body ends few d = record {
   decodes = d;
@@ -135,8 +148,10 @@ Line-awaits limit before old after now body ends few d = record {
       (λ so_far same. IsPart-open_line limit so_far now.buffer ends few));
 }
 
-pub Line-long : (limit : ℕ) (before : Option (List ℕ)) (old : Intake) (after : Option (List ℕ)) (now : Intake) (body : List ℕ)
-    → line_end now.buffer ≡ None → max_chunk_line ≤ length now.buffer → Decodes limit before old after now body stages.Line
+pub Line-long : (limit : ℕ) (before : Option (List ℕ)) (old : Intake) (after : Option (List ℕ)) (now : Intake)
+    (body : List ℕ)
+    → line_end now.buffer ≡ None → max_chunk_line ≤ length now.buffer
+    → Decodes limit before old after now body stages.Line
     → Decoded limit before old after now body nexts.Bad
 Line-long limit before old after now body ends long d = record {
   come = d.come;
@@ -145,7 +160,8 @@ Line-long limit before old after now body ends long d = record {
       (λ so_far same. IsPart-long_line limit so_far now.buffer ends long));
 }
 
-pub Line-no_size : (limit : ℕ) (before : Option (List ℕ)) (old : Intake) (after : Option (List ℕ)) (now : Intake) (body : List ℕ)
+pub Line-no_size : (limit : ℕ) (before : Option (List ℕ)) (old : Intake) (after : Option (List ℕ)) (now : Intake)
+    (body : List ℕ)
     (place : ℕ) → line_end now.buffer ≡ Some place → Says (take (suc place) now.buffer) None
     → Decodes limit before old after now body stages.Line → Decoded limit before old after now body nexts.Bad
 Line-no_size limit before old after now body place ends says d = record {
@@ -155,7 +171,8 @@ Line-no_size limit before old after now body place ends says d = record {
       (λ so_far same. IsPart-no_size limit so_far now.buffer place ends says));
 }
 
-pub Line-over : (limit : ℕ) (before : Option (List ℕ)) (old : Intake) (after : Option (List ℕ)) (now : Intake) (body : List ℕ)
+pub Line-over : (limit : ℕ) (before : Option (List ℕ)) (old : Intake) (after : Option (List ℕ)) (now : Intake)
+    (body : List ℕ)
     (place size : ℕ) → line_end now.buffer ≡ Some place → Says (take (suc place) now.buffer) (Some size) → 0 < size
     → limit < length body + size → Decodes limit before old after now body stages.Line
     → Decoded limit before old after now body (nexts.Long limit)
@@ -166,14 +183,16 @@ Line-over limit before old after now body place size ends says some over d = rec
       (λ so_far same. IsPart-over limit so_far now.buffer place size ends says some (omega arith)));
 }
 
-has_line : (limit : ℕ) (p : Progress) (body buffer : List ℕ) (place size : ℕ) → StandsAt limit p body buffer stages.Line
+has_line : (limit : ℕ) (p : Progress) (body buffer : List ℕ) (place size : ℕ)
+    → StandsAt limit p body buffer stages.Line
     → line_end buffer ≡ Some place → Says (take (suc place) buffer) (Some size) → HasLine p place size
 has_line limit p body buffer place size stands ends says = record {
   ends = ap line_end (sym stands.1) ∙ ends;
   says = subst (λ (b : List ℕ). Says (take (suc place) b) (Some size)) stands.1 says;
 }
 
-pub Line-data : (limit : ℕ) (before : Option (List ℕ)) (old : Intake) (after : Option (List ℕ)) (now : Intake) (body : List ℕ)
+pub Line-data : (limit : ℕ) (before : Option (List ℕ)) (old : Intake) (after : Option (List ℕ)) (now : Intake)
+    (body : List ℕ)
     (place size : ℕ) → line_end now.buffer ≡ Some place → Says (take (suc place) now.buffer) (Some size) → 0 < size
     → length body + size ≤ limit → Decodes limit before old after now body stages.Line
     → Decodes limit before old after (rest_of (drop (suc place) now.buffer) now) body (stages.Data size)
@@ -200,7 +219,8 @@ unfolding ends_empty
 none_empty buffer zero below = refl
 none_empty buffer (suc k) below = absurd (omega arith)
 
-pub Line-last : (limit : ℕ) (before : Option (List ℕ)) (old : Intake) (after : Option (List ℕ)) (now : Intake) (body : List ℕ)
+pub Line-last : (limit : ℕ) (before : Option (List ℕ)) (old : Intake) (after : Option (List ℕ)) (now : Intake)
+    (body : List ℕ)
     (place : ℕ) → line_end now.buffer ≡ Some place → Says (take (suc place) now.buffer) (Some 0)
     → Decodes limit before old after now body stages.Line
     → Decodes limit before old after (rest_of (drop place now.buffer) now) body (stages.Trailers 0)
@@ -221,9 +241,12 @@ Line-last limit before old after now body place ends says d = record {
 
 -- ---- inside data
 
-pub Data-moved : (limit : ℕ) (before : Option (List ℕ)) (old : Intake) (after : Option (List ℕ)) (now : Intake) (body : List ℕ)
-    (left count : ℕ) → count ≤ left → count ≤ length now.buffer → Decodes limit before old after now body (stages.Data left)
-    → Decodes limit before old after (rest_of (drop count now.buffer) now) (body ++ take count now.buffer) (stages.Data (left - count))
+pub Data-moved : (limit : ℕ) (before : Option (List ℕ)) (old : Intake) (after : Option (List ℕ)) (now : Intake)
+    (body : List ℕ)
+    (left count : ℕ) → count ≤ left → count ≤ length now.buffer
+    → Decodes limit before old after now body (stages.Data left)
+    → Decodes limit before old after (rest_of (drop count now.buffer) now) (body ++ take count now.buffer)
+    (stages.Data (left - count))
 Data-moved limit before old after now body left count few there d = record {
   come = IsGot-rest before old after now (drop count now.buffer) d.come;
   chunks = d.chunks;
@@ -241,11 +264,18 @@ Data-moved limit before old after now body left count few there d = record {
     behind = d.stands.behind
         ∙ ap (λ (l : List ℕ). d.stands.came ++ l) (sym (take-append-drop count now.buffer))
         ∙ sym (append_assoc d.stands.came (take count now.buffer) (drop count now.buffer));
-    due = omega (arith, d.stands.due, length-append d.stands.came (take count now.buffer), length-take count now.buffer);
+    due = omega (
+      arith,
+      d.stands.due,
+      length-append d.stands.came
+          (take count now.buffer),
+      length-take count now.buffer,
+    );
   };
 }
 
-pub Data-awaits : (limit : ℕ) (before : Option (List ℕ)) (old : Intake) (after : Option (List ℕ)) (now : Intake) (body : List ℕ)
+pub Data-awaits : (limit : ℕ) (before : Option (List ℕ)) (old : Intake) (after : Option (List ℕ)) (now : Intake)
+    (body : List ℕ)
     (left : ℕ) → length now.buffer ≡ 0 → Decodes limit before old after now body (stages.Data left)
     → Awaits limit before old after now body (stages.Data left)
 Data-awaits limit before old after now body left empty d = record {
@@ -265,7 +295,8 @@ data_part limit p body buffer d =
     IsPart-data limit (length p.body) p.ahead d.place d.size d.came buffer d.line.ends d.line.says d.some d.within d.behind
     (omega (arith, d.due))
 
-pub Data-closes : (limit : ℕ) (before : Option (List ℕ)) (old : Intake) (after : Option (List ℕ)) (now : Intake) (body : List ℕ)
+pub Data-closes : (limit : ℕ) (before : Option (List ℕ)) (old : Intake) (after : Option (List ℕ)) (now : Intake)
+    (body : List ℕ)
     → IsClosed now.buffer closings.Crlf → Decodes limit before old after now body (stages.Data 0)
     → Decodes limit before old after (rest_of (drop 2 now.buffer) now) body stages.Line
 Data-closes limit before old after now body closed d = record {
@@ -291,30 +322,36 @@ Data-closes limit before old after now body closed d = record {
         sym (drop-drop 2 (suc d.stands.place + d.stands.size) d.progress.ahead)
         ∙ ap (drop 2) (sym (drop-drop d.stands.size (suc d.stands.place) d.progress.ahead) ∙ after_data)
 
-pub Data-unclosed : (limit : ℕ) (before : Option (List ℕ)) (old : Intake) (after : Option (List ℕ)) (now : Intake) (body : List ℕ)
+pub Data-unclosed : (limit : ℕ) (before : Option (List ℕ)) (old : Intake) (after : Option (List ℕ)) (now : Intake)
+    (body : List ℕ)
     → IsClosed now.buffer closings.Less → Decodes limit before old after now body (stages.Data 0)
     → Awaits limit before old after now body (stages.Data 0)
 Data-unclosed limit before old after now body closed d = record {
   decodes = d;
   less = found_lack limit before old after now body (stages.Data 0) open_ d
-      (subst (λ (part : Part). Comes limit d.progress part) (closed (chunk d.stands.came (suc d.stands.place + d.stands.size + 2)))
+      (subst (λ (part : Part). Comes limit d.progress part)
+      (closed (chunk d.stands.came (suc d.stands.place + d.stands.size + 2)))
       (data_part limit d.progress body now.buffer d.stands));
 }
 
-pub Data-ill_closed : (limit : ℕ) (before : Option (List ℕ)) (old : Intake) (after : Option (List ℕ)) (now : Intake) (body : List ℕ)
+pub Data-ill_closed : (limit : ℕ) (before : Option (List ℕ)) (old : Intake) (after : Option (List ℕ)) (now : Intake)
+    (body : List ℕ)
     → IsClosed now.buffer closings.Other → Decodes limit before old after now body (stages.Data 0)
     → Decoded limit before old after now body nexts.Bad
 Data-ill_closed limit before old after now body closed d = record {
   come = d.come;
   finds = found_lack limit before old after now body (stages.Data 0) bad d
-      (subst (λ (part : Part). Comes limit d.progress part) (closed (chunk d.stands.came (suc d.stands.place + d.stands.size + 2)))
+      (subst (λ (part : Part). Comes limit d.progress part)
+      (closed (chunk d.stands.came (suc d.stands.place + d.stands.size + 2)))
       (data_part limit d.progress body now.buffer d.stands));
 }
 
 -- ---- in the trailer section
 
-pub Trailers-whole : (limit : ℕ) (before : Option (List ℕ)) (old : Intake) (after : Option (List ℕ)) (now : Intake) (body : List ℕ)
-    (scanned end : ℕ) → IsEnd (1 + max_trailers) now.buffer end → Decodes limit before old after now body (stages.Trailers scanned)
+pub Trailers-whole : (limit : ℕ) (before : Option (List ℕ)) (old : Intake) (after : Option (List ℕ)) (now : Intake)
+    (body : List ℕ)
+    (scanned end : ℕ) → IsEnd (1 + max_trailers) now.buffer end
+    → Decodes limit before old after now body (stages.Trailers scanned)
     → Decoded limit before old after (rest_of (drop end now.buffer) now) body nexts.Whole
 Trailers-whole limit before old after now body scanned end ends d = record {
   come = IsGot-rest before old after now (drop end now.buffer) d.come;
@@ -335,7 +372,8 @@ Trailers-whole limit before old after now body scanned end ends d = record {
         let all : d.progress.at + length d.progress.ahead ≡ 0 + length bytes =
         Chunks-length limit (begun bytes) d.chunks d.progress d.begins in
         let size : length now.buffer ≡ length (drop d.stands.place d.progress.ahead) = ap length d.stands.buffered in
-        let inside : d.stands.place < length d.progress.ahead = (line_end-is d.progress.ahead d.stands.place d.stands.line.ends).1 in
+        let inside : d.stands.place < length d.progress.ahead =
+        (line_end-is d.progress.ahead d.stands.place d.stands.line.ends).1 in
         omega (arith, ends.within, length-drop end now.buffer, length-drop d.stands.place d.progress.ahead)
 
     whole : IsChunked limit bytes (complete body total)
@@ -356,14 +394,16 @@ none_ends : (limit : ℕ) (p : Progress) (body buffer : List ℕ) (scanned : ℕ
 none_ends limit p body buffer scanned t none =
     subst (λ (b : List ℕ). HasNoEnd b (min (length b) (1 + max_trailers))) t.buffered none
 
-pub Trailers-awaits : (limit : ℕ) (before : Option (List ℕ)) (old : Intake) (after : Option (List ℕ)) (now : Intake) (body : List ℕ)
+pub Trailers-awaits : (limit : ℕ) (before : Option (List ℕ)) (old : Intake) (after : Option (List ℕ)) (now : Intake)
+    (body : List ℕ)
     (scanned : ℕ) → EndsAt (1 + max_trailers) now.buffer None → length now.buffer ≤ max_trailers
     → Decodes limit before old after now body (stages.Trailers scanned)
     → Awaits limit before old after now body (stages.Trailers (length now.buffer))
 Trailers-awaits limit before old after now body scanned none few d = record {
   decodes = looked;
   less = found_lack limit before old after now body (stages.Trailers (length now.buffer)) open_ looked
-      (IsPart-open_trailers limit (length d.progress.body) d.progress.ahead d.stands.place d.stands.line.ends d.stands.line.says
+      (IsPart-open_trailers limit
+      (length d.progress.body) d.progress.ahead d.stands.place d.stands.line.ends d.stands.line.says
       (none_ends limit d.progress body now.buffer scanned d.stands none)
       (subst (λ (b : List ℕ). length b ≤ max_trailers) d.stands.buffered few));
 }
@@ -384,14 +424,16 @@ Trailers-awaits limit before old after now body scanned none few d = record {
       };
     }
 
-pub Trailers-long : (limit : ℕ) (before : Option (List ℕ)) (old : Intake) (after : Option (List ℕ)) (now : Intake) (body : List ℕ)
+pub Trailers-long : (limit : ℕ) (before : Option (List ℕ)) (old : Intake) (after : Option (List ℕ)) (now : Intake)
+    (body : List ℕ)
     (scanned : ℕ) → EndsAt (1 + max_trailers) now.buffer None → max_trailers < length now.buffer
     → Decodes limit before old after now body (stages.Trailers scanned)
     → Decoded limit before old after now body (nexts.Long max_trailers)
 Trailers-long limit before old after now body scanned none long d = record {
   come = d.come;
   finds = found_lack limit before old after now body (stages.Trailers scanned) (too_long max_trailers) d
-      (IsPart-long_trailers limit (length d.progress.body) d.progress.ahead d.stands.place d.stands.line.ends d.stands.line.says
+      (IsPart-long_trailers limit
+      (length d.progress.body) d.progress.ahead d.stands.place d.stands.line.ends d.stands.line.says
       (none_ends limit d.progress body now.buffer scanned d.stands none)
       (subst (λ (b : List ℕ). max_trailers < length b) d.stands.buffered long));
 }
@@ -412,7 +454,8 @@ nearer_by_use now count stage other there less = omega (arith, length-drop count
 
 -- ---- the whole decoding
 
-pub Decodes-start : (limit : ℕ) (before : Option (List ℕ)) (now : Intake) (body : List ℕ) → body ≡ [] → now.total ≤ max_read
+pub Decodes-start : (limit : ℕ) (before : Option (List ℕ)) (now : Intake) (body : List ℕ) → body ≡ []
+    → now.total ≤ max_read
     → Decodes limit before now before now body stages.Line
 Decodes-start limit before now body none spent = record {
   come = IsGot-start before now spent;
@@ -423,23 +466,27 @@ Decodes-start limit before now body none spent = record {
 }
 
 -- how many bytes a whole body took, by how many came
-took : (limit : ℕ) (before : Option (List ℕ)) (old : Intake) (after : Option (List ℕ)) (now : Intake) (body : List ℕ) (held size : ℕ)
+took : (limit : ℕ) (before : Option (List ℕ)) (old : Intake) (after : Option (List ℕ)) (now : Intake) (body : List ℕ)
+    (held size : ℕ)
     (d : Decoded limit before old after now body nexts.Whole) → held ≡ length old.buffer
     → size ≡ held + (now.total - old.total) - length now.buffer → d.finds.0 ≡ size
 took limit before old after now body held size d all is =
     omega (arith, d.finds.1, d.come.counted, length-append old.buffer d.come.got)
 
-pub whole_shows : (limit : ℕ) (before : Option (List ℕ)) (old : Intake) (after : Option (List ℕ)) (now : Intake) (body : List ℕ)
+pub whole_shows : (limit : ℕ) (before : Option (List ℕ)) (old : Intake) (after : Option (List ℕ)) (now : Intake)
+    (body : List ℕ)
     (held size : ℕ) (d : Decoded limit before old after now body nexts.Whole) → held ≡ length old.buffer
     → size ≡ held + (now.total - old.total) - length now.buffer
-    → IsChunked limit (old.buffer ++ d.come.got) (complete body size) × (now.buffer ≡ drop size (old.buffer ++ d.come.got))
+    → IsChunked limit (old.buffer ++ d.come.got) (complete body size)
+    × (now.buffer ≡ drop size (old.buffer ++ d.come.got))
 whole_shows limit before old after now body held size d all is =
     let count : d.finds.0 ≡ size = took limit before old after now body held size d all is in (
       subst (λ (n : ℕ). IsChunked limit (old.buffer ++ d.come.got) (complete body n)) count d.finds.2,
       subst (λ (n : ℕ). now.buffer ≡ drop n (old.buffer ++ d.come.got)) count d.finds.3,
     )
 
-pub whole_fits : (limit : ℕ) (before : Option (List ℕ)) (old : Intake) (after : Option (List ℕ)) (now : Intake) (body : List ℕ)
+pub whole_fits : (limit : ℕ) (before : Option (List ℕ)) (old : Intake) (after : Option (List ℕ)) (now : Intake)
+    (body : List ℕ)
     (held : ℕ) (d : Decoded limit before old after now body nexts.Whole) → held ≡ length old.buffer
     → length now.buffer ≤ held + (now.total - old.total)
 whole_fits limit before old after now body held d all =

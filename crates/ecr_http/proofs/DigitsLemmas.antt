@@ -25,7 +25,12 @@ pub digits_value-short : (ds : List ℕ) (i : ℕ) → IsTrue (is_length ds) →
 digits_value-short ds i h =
     let p = and_parts (nat_lt 0 (length ds) && nat_le (length ds) 18) (list_all is_ascii_digit ds) h in
     let q = and_parts (nat_lt 0 (length ds)) (nat_le (length ds) 18) p.0 in
-    omega (arith, digits_value_short own ds 18 p.1 (leb-true (length ds) 18 q.1), digits_value-take-le 10 ds i (omega arith))
+    omega (
+      arith,
+      digits_value_short own ds 18 p.1 (leb-true (length ds) 18 q.1),
+      digits_value-take-le 10 ds i
+          (omega arith),
+    )
 
 -- one more digit of a stated length
 pub digits_value-more : (ds : List ℕ) (i : ℕ) → IsTrue (is_length ds) → i < length ds

@@ -59,12 +59,14 @@ Settled-read before old after now others r none =
     let all = old.buffer ++ r.got in
     let same : all ++ others ≡ old.buffer ++ (r.got ++ others) = append_assoc old.buffer r.got others in
     let parts = settled_bytes all others now.buffer r.skipped r.blank r.buffered none in
-    subst (λ (l : List ℕ). Settled (record { at = old.at; ahead = l; closed = false }) now.at (now.buffer ++ others)) same (record {
+    subst (λ (l : List ℕ). Settled (record { at = old.at; ahead = l; closed = false }) now.at
+    (now.buffer ++ others)) same (record {
       at_is = ap (λ (k : ℕ). old.at + k) parts.0 ∙ sym r.placed;
       ahead_is = ap (λ (k : ℕ). drop k (all ++ others)) parts.0 ∙ parts.1;
     })
 
-meets : (p : Point) (at : ℕ) (bytes : List ℕ) (front : Front) → Settled p at bytes → IsFront at bytes front → Meets p front
+meets : (p : Point) (at : ℕ) (bytes : List ℕ) (front : Front) → Settled p at bytes → IsFront at bytes front
+    → Meets p front
 meets p at bytes front s is =
     subst₂ (λ (k : ℕ) (l : List ℕ). IsFront k l front) (sym s.at_is) (sym s.ahead_is) is
 
@@ -85,24 +87,30 @@ MayTell-due p false awaits = inl refl
 
 -- ---- each event
 
-lacks_by : (over : Bool) (p : Point) (at : ℕ) (bytes : List ℕ) (front : Front) (tail : Tail) → Settled p at bytes → IsFront at bytes front
+lacks_by : (over : Bool) (p : Point) (at : ℕ) (bytes : List ℕ) (front : Front) (tail : Tail) → Settled p at bytes
+    → IsFront at bytes front
     → tail_of over (record { at = at; ahead = bytes; closed = p.closed }) front ≡ Some tail → Lacks over p tail
 lacks_by over p at bytes front tail s is tails = record {
   front = front;
   meets = meets p at bytes front s is;
-  is = subst₂ (λ (k : ℕ) (l : List ℕ). tail_of over (record { at = k; ahead = l; closed = p.closed }) front ≡ Some tail) (sym s.at_is) (sym s.ahead_is) tails;
+  is = subst₂ (λ (k : ℕ) (l : List ℕ). tail_of over (record { at = k; ahead = l; closed = p.closed }) front
+      ≡ Some tail) (sym s.at_is) (sym s.ahead_is) tails;
 }
 
 abbrev point_at : ℕ → List ℕ → Request → Point
 point_at k l q = record { at = k; ahead = l; closed = closes q }
 
-past_is : (p : Point) (at : ℕ) (bytes : List ℕ) (r : Request) (count : ℕ) (now : Intake) → Settled p at bytes → now.at ≡ at + count
+past_is : (p : Point) (at : ℕ) (bytes : List ℕ) (r : Request) (count : ℕ) (now : Intake) → Settled p at bytes
+    → now.at ≡ at + count
     → now.buffer ≡ drop count bytes → point_of now (closes r) ≡ past p r count
 past_is p at bytes r count now s used left =
-    ap₂ (λ (k : ℕ) (l : List ℕ). point_at k l r) (used ∙ ap (λ (k : ℕ). k + count) (sym s.at_is)) (left ∙ ap (drop count) (sym s.ahead_is))
+    ap₂ (λ (k : ℕ) (l : List ℕ). point_at k l r) (used ∙ ap (λ (k : ℕ). k + count) (sym s.at_is))
+    (left ∙ ap (drop count) (sym s.ahead_is))
 
-pub Gives-fronts : (p : Point) (at : ℕ) (bytes : List ℕ) (now : Intake) (left held told : Option (List ℕ)) (due : Bool) (event : Event)
-    → Settled p at bytes → now.total ≡ p.at + length p.ahead → now.total ≤ max_read → Appends held told (interim due) → MayTell p (interim due)
+pub Gives-fronts : (p : Point) (at : ℕ) (bytes : List ℕ) (now : Intake) (left held told : Option (List ℕ))
+    (due : Bool) (event : Event)
+    → Settled p at bytes → now.total ≡ p.at + length p.ahead → now.total ≤ max_read → Appends held told (interim due)
+    → MayTell p (interim due)
     → Fronts at bytes now left due event → Gives p (point_of now (closes_after event)) left held told event
 Gives-fronts p at bytes now left held told due (events.Request r) s total spent says may f = (
   f.0,
@@ -159,7 +167,8 @@ Gives-fronts p at bytes now left held told due events.Spent s total spent says m
 Gives-fronts p at bytes now left held told due events.Mem s total spent says may f = (interim due, may, says)
 
 -- a read that gave nothing was made where more may be read
-pub IsUnspent-fronts : (at : ℕ) (bytes : List ℕ) (now : Intake) (left : Option (List ℕ)) (due : Bool) (size : ℕ) (event : Event)
+pub IsUnspent-fronts : (at : ℕ) (bytes : List ℕ) (now : Intake) (left : Option (List ℕ)) (due : Bool) (size : ℕ)
+    (event : Event)
     → now.total ≡ size → Fronts at bytes now left due event → IsUnspent size event
 IsUnspent-fronts at bytes now left due size (events.Request r) total f = tt
 IsUnspent-fronts at bytes now left due size events.End total f = omega (arith, f.3)
@@ -174,10 +183,12 @@ IsUnspent-fronts at bytes now left due size events.Mem total f = tt
 -- ---- a call of the reader
 
 -- bytes that don't begin with a blank one don't when more come
-pub no_blank-append : (bytes others : List ℕ) → 0 < length bytes → blank_length bytes ≡ 0 → blank_length (bytes ++ others) ≡ 0
+pub no_blank-append : (bytes others : List ℕ) → 0 < length bytes → blank_length bytes ≡ 0
+    → blank_length (bytes ++ others) ≡ 0
 no_blank-append bytes others some none = blank_length-append bytes others (omega arith) ∙ none
 
-total_read : (before : Option (List ℕ)) (old : Intake) (mid : Option (List ℕ)) (now : Intake) (r : IsRead before old mid now)
+total_read : (before : Option (List ℕ)) (old : Intake) (mid : Option (List ℕ)) (now : Intake)
+    (r : IsRead before old mid now)
     → now.total ≡ old.at + length (old.buffer ++ r.got)
 total_read before old mid now r =
     let placed = r.ready.placed in
@@ -187,14 +198,17 @@ total_read before old mid now r =
     omega (arith, length-drop r.skipped (old.buffer ++ r.got), blank_length-le (old.buffer ++ r.got))
 
 -- the bytes read are counted behind a head too
-total_behind : (before : Option (List ℕ)) (old : Intake) (mid : Option (List ℕ)) (lead : Intake) (after : Option (List ℕ)) (now : Intake) (due : Bool) (event : Event)
-    (r : IsRead before old mid lead) (b : Behind mid lead after now due event) → now.total ≡ bytes_read (grown (point_of old false) (r.got ++ b.got))
+total_behind : (before : Option (List ℕ)) (old : Intake) (mid : Option (List ℕ)) (lead : Intake)
+    (after : Option (List ℕ)) (now : Intake) (due : Bool) (event : Event)
+    (r : IsRead before old mid lead) (b : Behind mid lead after now due event)
+    → now.total ≡ bytes_read (grown (point_of old false) (r.got ++ b.got))
 total_behind before old mid lead after now due event r b =
     let first = total_read before old mid lead r in
     let counted = b.counted in
     omega (arith, length-append old.buffer r.got, length-append old.buffer (r.got ++ b.got), length-append r.got b.got)
 
-pub Nexts-behind : (before held : Option (List ℕ)) (old : Intake) (mid : Option (List ℕ)) (lead : Intake) (after told : Option (List ℕ)) (now : Intake) (due : Bool) (event : Event)
+pub Nexts-behind : (before held : Option (List ℕ)) (old : Intake) (mid : Option (List ℕ)) (lead : Intake)
+    (after told : Option (List ℕ)) (now : Intake) (due : Bool) (event : Event)
     → (r : IsRead before old mid lead) → (b : Behind mid lead after now due event)
     → blank_length (lead.buffer ++ b.got) ≡ 0 → Appends held told (interim due)
     → MayTell (grown (point_of old false) (r.got ++ b.got)) (interim due)
@@ -212,7 +226,8 @@ Nexts-behind before held old mid lead after told now due event r b none says may
     }
 
 -- nothing more came
-abbrev pub Behind-now : (left : Option (List ℕ)) (lead now : Intake) (due : Bool) (event : Event) → now.total ≡ lead.total → lead.total ≤ max_read
+abbrev pub Behind-now : (left : Option (List ℕ)) (lead now : Intake) (due : Bool) (event : Event)
+    → now.total ≡ lead.total → lead.total ≤ max_read
     → Fronts lead.at lead.buffer now left due event → Behind left lead left now due event
 Behind-now left lead now due event total spent fronts = record {
   got = [];
@@ -243,9 +258,11 @@ is_sent_over : (limit size : ℕ) → limit < size → is_sent limit (Sized size
 is_sent_over limit size over = rw (lt-leb size limit over) (and_false (nat_lt 0 size))
 
 not_le : (limit size : ℕ) → (size ≤ limit → ⊥) → limit < size
-not_le limit size over = ⊎_elim (λ (less : limit < size). less) (λ (most : size ≤ limit). absurd (over most)) (cases_lt limit size)
+not_le limit size over = ⊎_elim (λ (less : limit < size). less) (λ (most : size ≤ limit). absurd (over most))
+    (cases_lt limit size)
 
-waits_over : (head : Head) (size : ℕ) → framing_of head ≡ Some (Sized size) → max_body head.target < size → waits head ≡ false
+waits_over : (head : Head) (size : ℕ) → framing_of head ≡ Some (Sized size) → max_body head.target < size
+    → waits head ≡ false
 unfolding waits
 waits_over head size framed over =
     let sent : option_map_or (is_sent (max_body head.target)) (framing_of head) false ≡ false =
@@ -253,25 +270,30 @@ waits_over head size framed over =
     rw sent (and_false (head.minor == 1 && first_says (codes "expect") (codes "100-continue") head.fields))
 
 long_front : (at : ℕ) (bytes : List ℕ) (count : ℕ) (head : Head) (framing : Framing) → IsEnd max_head bytes count
-    → Parses (take count bytes) (Some head) → framing_of head ≡ Some framing → (FitsLimit framing (max_body head.target) → ⊥)
+    → Parses (take count bytes) (Some head) → framing_of head ≡ Some framing
+    → (FitsLimit framing (max_body head.target) → ⊥)
     → IsFront at bytes (short false (too_long (max_body head.target)))
 long_front at bytes count head (Sized size) ends parses framed over =
     let beyond : max_body head.target < size = not_le (max_body head.target) size over in
-    subst (λ (due : Bool). IsFront at bytes (short due (too_long (max_body head.target)))) (waits_over head size framed beyond)
+    subst (λ (due : Bool). IsFront at bytes (short due (too_long (max_body head.target))))
+    (waits_over head size framed beyond)
     (IsFront-body at bytes count head (Sized size) (lacks (too_long (max_body head.target))) ends parses framed
     (IsBody-sized_long (max_body head.target) size (drop count bytes) beyond))
 long_front at bytes count head Chunked ends parses framed over = absurd (over tt)
 
 -- a head whose body is delimited badly, or is too long
-pub Nexts-unframed : (before held : Option (List ℕ)) (old : Intake) (left : Option (List ℕ)) (now : Intake) (count : ℕ) (head : Head) (at : ℕ)
+pub Nexts-unframed : (before held : Option (List ℕ)) (old : Intake) (left : Option (List ℕ)) (now : Intake)
+    (count : ℕ) (head : Head) (at : ℕ)
     → Leads before old left now (leads.Head head count) → framing_of head ≡ None → at ≡ now.at
     → Nexts before held (point_of old false) left held (point_of now true) (events.Bad at)
 Nexts-unframed before held old left now count head at l none place =
     Nexts-now before held old left now (events.Bad at) l.read l.none
     (place, IsFront-unframed now.at now.buffer count head l.shows.0 l.shows.1 none)
 
-pub Nexts-long : (before held : Option (List ℕ)) (old : Intake) (left : Option (List ℕ)) (now : Intake) (count : ℕ) (head : Head) (framing : Framing) (at limit : ℕ)
-    → Leads before old left now (leads.Head head count) → framing_of head ≡ Some framing → (FitsLimit framing limit → ⊥)
+pub Nexts-long : (before held : Option (List ℕ)) (old : Intake) (left : Option (List ℕ)) (now : Intake) (count : ℕ)
+    (head : Head) (framing : Framing) (at limit : ℕ)
+    → Leads before old left now (leads.Head head count) → framing_of head ≡ Some framing
+    → (FitsLimit framing limit → ⊥)
     → limit ≡ max_body head.target → at ≡ now.at
     → Nexts before held (point_of old false) left held (point_of now true) (events.TooLong at limit)
 Nexts-long before held old left now count head framing at limit l framed over is place =
@@ -283,13 +305,16 @@ Nexts-long before held old left now count head framing at limit l framed over is
     )
 
 -- the 100 wasn't written whole
-pub Nexts-untold : (before held told : Option (List ℕ)) (old : Intake) (left : Option (List ℕ)) (now : Intake) (count : ℕ) (head : Head)
-    → Leads before old left now (leads.Head head count) → waits head ≡ true → Sends held told (interim (waits head)) WriteFault
+pub Nexts-untold : (before held told : Option (List ℕ)) (old : Intake) (left : Option (List ℕ)) (now : Intake)
+    (count : ℕ) (head : Head)
+    → Leads before old left now (leads.Head head count) → waits head ≡ true
+    → Sends held told (interim (waits head)) WriteFault
     → Nexts before held (point_of old false) left told (point_of now true) events.WriteFault
 unfolding interim
 Nexts-untold before held told old left now count head l waiting sends =
     let none : blank_length (now.buffer ++ []) ≡ 0 = ap blank_length (append-nil now.buffer) ∙ l.none in
-    let s : Settled (grown (point_of old false) (l.read.got ++ [])) now.at (now.buffer ++ []) = Settled-read before old left now [] l.read none in
+    let s : Settled (grown (point_of old false) (l.read.got ++ [])) now.at (now.buffer ++ []) =
+    Settled-read before old left now [] l.read none in
     let bytes : now.buffer ≡ now.buffer ++ [] = sym (append-nil now.buffer) in
     let awaits : AwaitsBody (grown (point_of old false) (l.read.got ++ [])) =
     AwaitsBody-head (grown (point_of old false) (l.read.got ++ [])) now.at (now.buffer ++ []) count head s
@@ -302,13 +327,21 @@ Nexts-untold before held told old left now count head l waiting sends =
       within =
           let total = total_read before old left now l.read in
           let spent = l.read.ready.spent in
-          omega (arith, length-append old.buffer l.read.got, length-append old.buffer (l.read.got ++ []), length-append l.read.got []);
+          omega (
+            arith,
+            length-append old.buffer l.read.got,
+            length-append old.buffer
+                (l.read.got ++ []),
+            length-append l.read.got [],
+          );
       unspent = tt;
     }
 
 -- the request behind a head was read, or what stands in its place
-pub Nexts-head : (before held told : Option (List ℕ)) (old : Intake) (mid : Option (List ℕ)) (lead : Intake) (after : Option (List ℕ)) (now : Intake) (count : ℕ) (head : Head) (event : Event)
-    → Leads before old mid lead (leads.Head head count) → Behind mid lead after now (waits head) event → Appends held told (interim (waits head))
+pub Nexts-head : (before held told : Option (List ℕ)) (old : Intake) (mid : Option (List ℕ)) (lead : Intake)
+    (after : Option (List ℕ)) (now : Intake) (count : ℕ) (head : Head) (event : Event)
+    → Leads before old mid lead (leads.Head head count) → Behind mid lead after now (waits head) event
+    → Appends held told (interim (waits head))
     → Nexts before held (point_of old false) after told (point_of now (closes_after event)) event
 Nexts-head before held told old mid lead after now count head event l b says =
     let within : count ≤ length lead.buffer = l.shows.0.within in
@@ -318,29 +351,36 @@ Nexts-head before held told old mid lead after now count head event l b says =
     let s : Settled p lead.at (lead.buffer ++ b.got) = Settled-read before old mid lead b.got l.read none in
     Nexts-behind before held old mid lead after told now (waits head) event l.read b none says
     (MayTell-due p (waits head) (λ waiting.
-    AwaitsBody-head p lead.at (lead.buffer ++ b.got) count head s (IsEnd-append max_head lead.buffer b.got count l.shows.0)
+    AwaitsBody-head p lead.at (lead.buffer ++ b.got) count head s
+    (IsEnd-append max_head lead.buffer b.got count l.shows.0)
     (Parses-append lead.buffer b.got count (Some head) within l.shows.1) waiting))
 
 abbrev pub finished : ℕ → ℕ → Intake → Intake
 finished count size now = record now { at = now.at + (count + size); scanned = 0 }
 
 -- what stands at the front, by what stands behind the head
-front_of_body : (lead : Intake) (count : ℕ) (head : Head) (framing : Framing) (limit : ℕ) (got : List ℕ) (body : BodyFront)
+front_of_body : (lead : Intake) (count : ℕ) (head : Head) (framing : Framing) (limit : ℕ) (got : List ℕ)
+    (body : BodyFront)
     → HasHead lead.buffer count head framing limit → IsBody limit (drop count lead.buffer ++ got) framing body
     → IsFront lead.at (lead.buffer ++ got) (with_body lead.at count head body)
 front_of_body lead count head framing limit got body h stands =
     let within : count ≤ length lead.buffer = h.ends.within in
-    let behind : drop count (lead.buffer ++ got) ≡ drop count lead.buffer ++ got = drop-append-le count lead.buffer got within in
-    IsFront-body lead.at (lead.buffer ++ got) count head framing body (IsEnd-append max_head lead.buffer got count h.ends)
+    let behind : drop count (lead.buffer ++ got) ≡ drop count lead.buffer ++ got =
+    drop-append-le count lead.buffer got within in
+    IsFront-body lead.at (lead.buffer ++ got) count head framing body
+    (IsEnd-append max_head lead.buffer got count h.ends)
     (Parses-append lead.buffer got count (Some head) within h.parses) h.framed
     (rw behind (subst (λ (l : ℕ). IsBody l (drop count lead.buffer ++ got) framing body) h.limit_is stands))
 
 -- a body is no longer than what was read
-pub taken-small : (left : Option (List ℕ)) (lead : Intake) (after : Option (List ℕ)) (now : Intake) (count : ℕ) (framing : Framing) (limit : ℕ)
+pub taken-small : (left : Option (List ℕ)) (lead : Intake) (after : Option (List ℕ)) (now : Intake) (count : ℕ)
+    (framing : Framing) (limit : ℕ)
     (rest : List ℕ) (body : Vec ℕ Global) (size : ℕ) → rest ≡ drop count lead.buffer → IsReady lead
-    → Bodies limit framing left (rest_of rest lead) after now (takens.Body body size) → (size ≤ max_read) × (now.at ≡ lead.at) × (lead.at ≤ max_read)
+    → Bodies limit framing left (rest_of rest lead) after now (takens.Body body size) → (size ≤ max_read)
+    × (now.at ≡ lead.at) × (lead.at ≤ max_read)
 taken-small left lead after now count framing limit rest body size is ready b =
-    let within : size ≤ length (rest ++ b.come.got) = IsBody-length limit (rest ++ b.come.got) framing body.items size b.shows.0 in
+    let within : size ≤ length (rest ++ b.come.got) =
+    IsBody-length limit (rest ++ b.come.got) framing body.items size b.shows.0 in
     let counted = b.come.counted in
     let spent = b.come.spent in
     let placed = ready.placed in
@@ -350,9 +390,12 @@ taken-small left lead after now count framing limit rest body size is ready b =
       omega arith,
     )
 
-pub Behind-body : (left : Option (List ℕ)) (lead : Intake) (after : Option (List ℕ)) (now : Intake) (count : ℕ) (head : Head) (framing : Framing) (limit : ℕ)
-    (rest : List ℕ) (body : Vec ℕ Global) (size : ℕ) (r : Request) → rest ≡ drop count lead.buffer → IsReady lead → HasHead lead.buffer count head framing limit
-    → Bodies limit framing left (rest_of rest lead) after now (takens.Body body size) → r ≡ request_of now.at head body.items
+pub Behind-body : (left : Option (List ℕ)) (lead : Intake) (after : Option (List ℕ)) (now : Intake) (count : ℕ)
+    (head : Head) (framing : Framing) (limit : ℕ)
+    (rest : List ℕ) (body : Vec ℕ Global) (size : ℕ) (r : Request) → rest ≡ drop count lead.buffer → IsReady lead
+    → HasHead lead.buffer count head framing limit
+    → Bodies limit framing left (rest_of rest lead) after now (takens.Body body size)
+    → r ≡ request_of now.at head body.items
     → Behind left lead after (finished count size now) (waits head) (events.Request r)
 Behind-body left lead after now count head framing limit rest body size r is ready h b made =
     let got = b.come.got in
@@ -364,9 +407,12 @@ Behind-body left lead after now count head framing limit rest body size r is rea
     front_of_body lead count head framing limit got (complete body.items size) h stands in
     let long = IsFront-whole_length lead.at bytes (request_of lead.at head body.items) (count + size) front in
     let at : now.at ≡ lead.at = ap (λ (x : Intake). x.at) b.come.kept in
-    let same : request_of lead.at head body.items ≡ r = ap (λ (k : ℕ). request_of k head body.items) (sym at) ∙ sym made in
-    let behind : drop count bytes ≡ rest ++ got = drop-append-le count lead.buffer got within ∙ ap (λ (l : List ℕ). l ++ got) (sym is) in
-    let buffered : now.buffer ≡ drop (count + size) bytes = b.shows.1 ∙ ap (drop size) (sym behind) ∙ drop-drop count size bytes in
+    let same : request_of lead.at head body.items ≡ r =
+    ap (λ (k : ℕ). request_of k head body.items) (sym at) ∙ sym made in
+    let behind : drop count bytes ≡ rest ++ got =
+    drop-append-le count lead.buffer got within ∙ ap (λ (l : List ℕ). l ++ got) (sym is) in
+    let buffered : now.buffer ≡ drop (count + size) bytes =
+    b.shows.1 ∙ ap (drop size) (sym behind) ∙ drop-drop count size bytes in
     let counted = b.come.counted in
     let placed = ready.placed in
     let left_over : length now.buffer ≡ length (drop (count + size) bytes) = ap length buffered in
@@ -391,16 +437,19 @@ Behind-body left lead after now count head framing limit rest body size r is rea
     }
 
 -- no body stands behind the head, or more than its limit allows
-lack_front : (lead : Intake) (count : ℕ) (head : Head) (framing : Framing) (limit : ℕ) (got rest : List ℕ) (lack : Lack)
+lack_front : (lead : Intake) (count : ℕ) (head : Head) (framing : Framing) (limit : ℕ) (got rest : List ℕ)
+    (lack : Lack)
     → rest ≡ drop count lead.buffer → HasHead lead.buffer count head framing limit
     → IsBody limit (rest ++ got) framing (lacks lack) → IsFront lead.at (lead.buffer ++ got) (short (waits head) lack)
 lack_front lead count head framing limit got rest lack is h stands =
     front_of_body lead count head framing limit got (lacks lack) h
     (subst (λ (l : List ℕ). IsBody limit (l ++ got) framing (lacks lack)) is stands)
 
-pub Behind-bad : (left : Option (List ℕ)) (lead : Intake) (after : Option (List ℕ)) (now : Intake) (count : ℕ) (head : Head) (framing : Framing) (limit : ℕ)
+pub Behind-bad : (left : Option (List ℕ)) (lead : Intake) (after : Option (List ℕ)) (now : Intake) (count : ℕ)
+    (head : Head) (framing : Framing) (limit : ℕ)
     (rest : List ℕ) → rest ≡ drop count lead.buffer → HasHead lead.buffer count head framing limit
-    → Bodies limit framing left (rest_of rest lead) after now takens.Bad → Behind left lead after now (waits head) (events.Bad now.at)
+    → Bodies limit framing left (rest_of rest lead) after now takens.Bad
+    → Behind left lead after now (waits head) (events.Bad now.at)
 Behind-bad left lead after now count head framing limit rest is h b = record {
   got = b.come.got;
   consumed = b.come.consumed;
@@ -409,7 +458,8 @@ Behind-bad left lead after now count head framing limit rest is h b = record {
   fronts = (ap (λ (x : Intake). x.at) b.come.kept, lack_front lead count head framing limit b.come.got rest bad is h b.shows);
 }
 
-pub Behind-long : (left : Option (List ℕ)) (lead : Intake) (after : Option (List ℕ)) (now : Intake) (count : ℕ) (head : Head) (framing : Framing) (limit : ℕ)
+pub Behind-long : (left : Option (List ℕ)) (lead : Intake) (after : Option (List ℕ)) (now : Intake) (count : ℕ)
+    (head : Head) (framing : Framing) (limit : ℕ)
     (rest : List ℕ) (most : ℕ) → rest ≡ drop count lead.buffer → HasHead lead.buffer count head framing limit
     → Bodies limit framing left (rest_of rest lead) after now (takens.Long most)
     → Behind left lead after now (waits head) (events.TooLong now.at most)
@@ -418,7 +468,11 @@ Behind-long left lead after now count head framing limit rest most is h b = reco
   consumed = b.come.consumed;
   counted = b.come.counted;
   spent = b.come.spent;
-  fronts = (ap (λ (x : Intake). x.at) b.come.kept, lack_front lead count head framing limit b.come.got rest (too_long most) is h b.shows);
+  fronts = (
+    ap (λ (x : Intake). x.at) b.come.kept,
+    lack_front lead count head framing limit b.come.got rest
+        (too_long most) is h b.shows,
+  );
 }
 
 -- what is given where no more bytes come for a body
@@ -428,21 +482,29 @@ event_of at stops.Failed = events.ReadFault
 event_of at stops.Spent = events.Spent
 event_of at stops.Mem = events.Mem
 
-stopped_fronts : (at : ℕ) (lead : Intake) (after : Option (List ℕ)) (now : Intake) (count : ℕ) (head : Head) (framing : Framing) (limit : ℕ) (got : List ℕ) (stop : Stop)
+stopped_fronts : (at : ℕ) (lead : Intake) (after : Option (List ℕ)) (now : Intake) (count : ℕ) (head : Head)
+    (framing : Framing) (limit : ℕ) (got : List ℕ) (stop : Stop)
     → HasHead lead.buffer count head framing limit → at ≡ lead.at
     → IsPartial stop limit (drop count lead.buffer ++ got) framing → IsStop stop after now.total
     → Fronts lead.at (lead.buffer ++ got) now after (waits head) (event_of at stop)
 stopped_fronts at lead after now count head framing limit got stops.Ended h same partial is =
     let within : count ≤ length lead.buffer = h.ends.within in
-    let some : 0 < count = IsEnd-positive max_head lead.buffer count h.ends in
-    (same, front_of_body lead count head framing limit got (lacks open_) h partial, omega (arith, length-append lead.buffer got), is.0, is.1)
+    let some : 0 < count = IsEnd-positive max_head lead.buffer count h.ends in (
+      same,
+      front_of_body lead count head framing limit got (lacks open_) h partial,
+      omega
+          (arith, length-append lead.buffer got),
+      is.0,
+      is.1,
+    )
 stopped_fronts at lead after now count head framing limit got stops.Failed h same partial is =
     (front_of_body lead count head framing limit got (lacks open_) h partial, is)
 stopped_fronts at lead after now count head framing limit got stops.Spent h same partial is =
     (front_of_body lead count head framing limit got (lacks open_) h partial, is)
 stopped_fronts at lead after now count head framing limit got stops.Mem h same partial is = tt
 
-pub Behind-stopped : (left : Option (List ℕ)) (lead : Intake) (after : Option (List ℕ)) (now : Intake) (count : ℕ) (head : Head) (framing : Framing) (limit : ℕ)
+pub Behind-stopped : (left : Option (List ℕ)) (lead : Intake) (after : Option (List ℕ)) (now : Intake) (count : ℕ)
+    (head : Head) (framing : Framing) (limit : ℕ)
     (rest : List ℕ) (stop : Stop) → rest ≡ drop count lead.buffer → HasHead lead.buffer count head framing limit
     → Bodies limit framing left (rest_of rest lead) after now (takens.Stopped stop)
     → Behind left lead after now (waits head) (event_of now.at stop)
@@ -451,7 +513,8 @@ Behind-stopped left lead after now count head framing limit rest stop is h b = r
   consumed = b.come.consumed;
   counted = b.come.counted;
   spent = b.come.spent;
-  fronts = stopped_fronts now.at lead after now count head framing limit b.come.got stop h (ap (λ (x : Intake). x.at) b.come.kept)
+  fronts = stopped_fronts now.at lead after now count head framing limit b.come.got stop h
+      (ap (λ (x : Intake). x.at) b.come.kept)
       (subst (λ (l : List ℕ). IsPartial stop limit (l ++ b.come.got) framing) is b.shows.0) b.shows.1;
 }
 
@@ -463,7 +526,8 @@ Nexts-bad before held old left now at l place =
     Nexts-now before held old left now (events.Bad at) l.read l.none
     (place, IsFront-no_grammar now.at now.buffer l.shows.0 l.shows.1 l.shows.2)
 
-pub Nexts-long_head : (before held : Option (List ℕ)) (old : Intake) (left : Option (List ℕ)) (now : Intake) (at limit : ℕ)
+pub Nexts-long_head : (before held : Option (List ℕ)) (old : Intake) (left : Option (List ℕ)) (now : Intake)
+    (at limit : ℕ)
     → Leads before old left now leads.Long → limit ≡ max_head → at ≡ now.at
     → Nexts before held (point_of old false) left held (point_of now true) (events.TooLong at limit)
 Nexts-long_head before held old left now at limit l is place =
@@ -473,8 +537,10 @@ Nexts-long_head before held old left now at limit l is place =
           (IsFront-long now.at now.buffer l.shows.0 l.shows.1),
     )
 
-pub Nexts-stopped : (before held : Option (List ℕ)) (old : Intake) (left : Option (List ℕ)) (now : Intake) (stop : Stop) (event : Event)
-    → Leads before old left now (leads.Stopped stop) → (IsStop stop left now.total → Fronts now.at now.buffer now left false event)
+pub Nexts-stopped : (before held : Option (List ℕ)) (old : Intake) (left : Option (List ℕ)) (now : Intake)
+    (stop : Stop) (event : Event)
+    → Leads before old left now (leads.Stopped stop)
+    → (IsStop stop left now.total → Fronts now.at now.buffer now left false event)
     → Nexts before held (point_of old false) left held (point_of now (closes_after event)) event
 Nexts-stopped before held old left now stop event l fronts =
     Nexts-now before held old left now event l.read l.none (fronts l.shows.1)

@@ -31,10 +31,17 @@ line_count-print_field f = simp line_count-append (omega (arith, line_count-prin
 line_count-print_fields : (fields : List grammar.Field) → length fields ≤ line_count (flat_map print_field fields)
 line_count-print_fields [] = omega arith
 line_count-print_fields (f ∷ fs) =
-    omega (arith, line_count-append (print_field f) (flat_map print_field fs), line_count-print_field f, line_count-print_fields fs)
+    omega (
+      arith,
+      line_count-append (print_field f)
+          (flat_map print_field fs),
+      line_count-print_field f,
+      line_count-print_fields fs,
+    )
 
 -- each field has a line of its own
-pub fields-bound : (bytes : List ℕ) (h : RequestHead) (rest : List ℕ) → ReadsRequest bytes h rest → length h.fields ≤ line_count bytes
+pub fields-bound : (bytes : List ℕ) (h : RequestHead) (rest : List ℕ) → ReadsRequest bytes h rest
+    → length h.fields ≤ line_count bytes
 unfolding print_request
 fields-bound bytes h rest r =
     let fields = line_count-print_fields h.fields in
@@ -48,13 +55,15 @@ map-map : {A B C : Type 0} (f : A → B) (g : B → C) (xs : List A) → map g (
 map-map f g [] = refl
 map-map f g (x ∷ xs) = ap (λ l. g (f x) ∷ l) (map-map f g xs)
 
-fields-agree : (bytes : List ℕ) (spans : List HeaderSpan) (fields : List grammar.Field) → map (header_bytes bytes) spans ≡ map name_and_value fields
+fields-agree : (bytes : List ℕ) (spans : List HeaderSpan) (fields : List grammar.Field)
+    → map (header_bytes bytes) spans ≡ map name_and_value fields
     → map (field_at bytes) spans ≡ map field_of fields
 fields-agree bytes spans fields e =
     sym (map-map (header_bytes bytes) to_field spans) ∙ ap (map to_field) e ∙ map-map name_and_value to_field fields
 
 -- the spans of a head say what is kept of it
-pub head_at-head_of : (bytes : List ℕ) (spans : List HeaderSpan) (parts : RequestSpans) (h : RequestHead) → IsRequestAt bytes spans parts h
+pub head_at-head_of : (bytes : List ℕ) (spans : List HeaderSpan) (parts : RequestSpans) (h : RequestHead)
+    → IsRequestAt bytes spans parts h
     → head_at bytes parts (take parts.headers spans) ≡ head_of h
 head_at-head_of bytes spans parts h is =
     let method = is.method in
@@ -64,12 +73,14 @@ head_at-head_of bytes spans parts h is =
     cc
 
 -- the head that the parser found, where it goes to the end of the bytes, is the one that they are
-pub Parses-found : (bytes : List ℕ) (spans : List HeaderSpan) (parts : RequestSpans) (h : RequestHead) → IsRequestAt bytes spans parts h → parts.len ≡ length bytes
+pub Parses-found : (bytes : List ℕ) (spans : List HeaderSpan) (parts : RequestSpans) (h : RequestHead)
+    → IsRequestAt bytes spans parts h → parts.len ≡ length bytes
     → Parses bytes (Some (head_at bytes parts (take parts.headers spans)))
 Parses-found bytes spans parts h is whole =
     let none : drop parts.len bytes ≡ [] = drop_of_length-le bytes (omega arith) in
     (h, (is.reads.0, is.reads.1 ∙ ap (λ l. print_request h ++ l) none), head_at-head_of bytes spans parts h is)
 
 -- a head that is all of the bytes is found at their length
-pub found-whole : (bytes : List ℕ) (spans : List HeaderSpan) (parts : RequestSpans) (h : RequestHead) → IsRequestAt bytes spans parts h → ReadsRequest bytes h [] → parts.len ≡ length bytes
+pub found-whole : (bytes : List ℕ) (spans : List HeaderSpan) (parts : RequestSpans) (h : RequestHead)
+    → IsRequestAt bytes spans parts h → ReadsRequest bytes h [] → parts.len ≡ length bytes
 found-whole bytes spans parts h is reads = is.len ∙ sym (ap length (reads.1 ∙ append-nil (print_request h)))

@@ -18,14 +18,16 @@ use Rattle.ecr_http.specs.declared.intake.Stop.TheVariants as stops
 -- ---- blank bytes
 
 -- a blank byte behind blank ones is one more
-pub blank_length-more : (bytes : List ℕ) (n : ℕ) → n < length bytes → n ≤ blank_length bytes → is_blank (get_or bytes n 0) ≡ true → n + 1 ≤ blank_length bytes
+pub blank_length-more : (bytes : List ℕ) (n : ℕ) → n < length bytes → n ≤ blank_length bytes
+    → is_blank (get_or bytes n 0) ≡ true → n + 1 ≤ blank_length bytes
 blank_length-more bytes n h at_most e =
     let step = at_drop_more blank_length bytes n 0 h in
     let here = ap (λ v. cond v (1 + blank_length (drop (n + 1) bytes)) 0) e in
     omega (arith, blank_length-drop bytes n at_most, step, here)
 
 -- another byte ends them
-pub blank_length-stop : (bytes : List ℕ) (n : ℕ) → n < length bytes → n ≤ blank_length bytes → is_blank (get_or bytes n 0) ≡ false → n ≡ blank_length bytes
+pub blank_length-stop : (bytes : List ℕ) (n : ℕ) → n < length bytes → n ≤ blank_length bytes
+    → is_blank (get_or bytes n 0) ≡ false → n ≡ blank_length bytes
 blank_length-stop bytes n h at_most e =
     let step = at_drop_more blank_length bytes n 0 h in
     let here = ap (λ v. cond v (1 + blank_length (drop (n + 1) bytes)) 0) e in
@@ -34,7 +36,13 @@ blank_length-stop bytes n h at_most e =
 -- more bytes don't end the blank ones earlier
 pub blank_length-grows : (bytes others : List ℕ) → blank_length bytes ≤ blank_length (bytes ++ others)
 blank_length-grows [] others = omega arith
-blank_length-grows (b ∷ bytes) others = elim (is_blank b) as (λ v. cond v (1 + blank_length bytes) 0 ≤ cond v (1 + blank_length (bytes ++ others)) 0) [ true ↦ omega (arith, blank_length-grows bytes others) | false ↦ omega arith ]
+blank_length-grows (b ∷ bytes) others =
+    elim (is_blank b) as (λ v. cond v (1 + blank_length bytes) 0 ≤ cond v
+    (1 + blank_length (bytes ++ others)) 0) [
+      | true ↦ omega
+          (arith, blank_length-grows bytes others)
+      | false ↦ omega arith
+    ]
 
 -- ---- what is always so
 
@@ -45,7 +53,8 @@ HasNoEnd-zero bytes k h =
     let none : k ≡ 0 = omega arith in
     subst (λ n. ends_empty bytes n ≡ false) (sym none) refl
 
-pub IsReady-fresh : (intake : Intake) → intake.buffer ≡ [] → intake.at ≡ 0 → intake.total ≡ 0 → intake.scanned ≡ 0 → IsReady intake
+pub IsReady-fresh : (intake : Intake) → intake.buffer ≡ [] → intake.at ≡ 0 → intake.total ≡ 0 → intake.scanned ≡ 0
+    → IsReady intake
 IsReady-fresh intake buffer at total scanned = record {
   placed = omega (arith, ap length buffer);
   spent = omega arith;
@@ -53,7 +62,8 @@ IsReady-fresh intake buffer at total scanned = record {
   known = subst (HasNoEnd intake.buffer) (sym scanned) (HasNoEnd-zero intake.buffer);
 }
 
-pub IsReady-passed : (intake : Intake) (count : ℕ) → count ≤ length intake.buffer → IsReady intake → IsReady (passed count intake)
+pub IsReady-passed : (intake : Intake) (count : ℕ) → count ≤ length intake.buffer → IsReady intake
+    → IsReady (passed count intake)
 IsReady-passed intake count h ready = record {
   placed = let placed = ready.placed in omega (arith, length-drop count intake.buffer);
   spent = ready.spent;
@@ -65,7 +75,8 @@ IsReady-passed intake count h ready = record {
 abbrev pub looked : ℕ → Intake → Intake
 looked n intake = record intake { scanned = n }
 
-IsReady-looked : (intake : Intake) (n : ℕ) → IsReady intake → n ≤ length intake.buffer → HasNoEnd intake.buffer n → IsReady (looked n intake)
+IsReady-looked : (intake : Intake) (n : ℕ) → IsReady intake → n ≤ length intake.buffer → HasNoEnd intake.buffer n
+    → IsReady (looked n intake)
 IsReady-looked intake n ready within none_ends = record {
   placed = ready.placed;
   spent = ready.spent;
@@ -73,7 +84,8 @@ IsReady-looked intake n ready within none_ends = record {
   known = none_ends;
 }
 
-IsReady-lengthened : (intake : Intake) (piece : List ℕ) → IsReady intake → intake.total + length piece ≤ max_read → IsReady (lengthened intake piece)
+IsReady-lengthened : (intake : Intake) (piece : List ℕ) → IsReady intake → intake.total + length piece ≤ max_read
+    → IsReady (lengthened intake piece)
 IsReady-lengthened intake piece ready fits =
     let size = length-append intake.buffer piece in
     let placed = ready.placed in
@@ -106,7 +118,8 @@ drop-drop (suc i) j (x ∷ l) =
     drop-drop i j l ∙ ap (λ k. drop k (x ∷ l)) e
 
 -- the blank bytes are dropped
-pub IsRead-passed_blank : (before : Option (List ℕ)) (old : Intake) (after : Option (List ℕ)) (now : Intake) → IsRead before old after now
+pub IsRead-passed_blank : (before : Option (List ℕ)) (old : Intake) (after : Option (List ℕ)) (now : Intake)
+    → IsRead before old after now
     → IsRead before old after (passed (blank_length now.buffer) now)
 IsRead-passed_blank before old after now r =
     let all = blank_length-drop (old.buffer ++ r.got) r.skipped r.blank in
@@ -116,12 +129,14 @@ IsRead-passed_blank before old after now r =
       skipped = r.skipped + blank_length now.buffer;
       consumed = r.consumed;
       blank = omega arith;
-      buffered = ap (drop (blank_length now.buffer)) r.buffered ∙ drop-drop r.skipped (blank_length now.buffer) (old.buffer ++ r.got);
+      buffered = ap (drop (blank_length now.buffer)) r.buffered
+          ∙ drop-drop r.skipped (blank_length now.buffer) (old.buffer ++ r.got);
       placed = let placed = r.placed in omega arith;
       ready = IsReady-passed now (blank_length now.buffer) (blank_length-le now.buffer) r.ready;
     }
 
-pub IsRead-looked : (before : Option (List ℕ)) (old : Intake) (after : Option (List ℕ)) (now : Intake) (n : ℕ) → IsRead before old after now
+pub IsRead-looked : (before : Option (List ℕ)) (old : Intake) (after : Option (List ℕ)) (now : Intake) (n : ℕ)
+    → IsRead before old after now
     → n ≤ length now.buffer → HasNoEnd now.buffer n → IsRead before old after (looked n now)
 IsRead-looked before old after now n r within none_ends = record {
   got = r.got;
@@ -133,7 +148,8 @@ IsRead-looked before old after now n r within none_ends = record {
   ready = IsReady-looked now n r.ready within none_ends;
 }
 
-IsRead-lengthened : (before : Option (List ℕ)) (old : Intake) (mid after : Option (List ℕ)) (now : Intake) (piece : List ℕ) → IsRead before old mid now
+IsRead-lengthened : (before : Option (List ℕ)) (old : Intake) (mid after : Option (List ℕ)) (now : Intake)
+    (piece : List ℕ) → IsRead before old mid now
     → Consumes mid after piece → now.total + length piece ≤ max_read → IsRead before old after (lengthened now piece)
 IsRead-lengthened before old mid after now piece r consumed fits =
     let same = append_assoc old.buffer r.got piece in
@@ -145,21 +161,24 @@ IsRead-lengthened before old mid after now piece r consumed fits =
       consumed = Consumes-trans before mid after r.got piece r.consumed consumed;
       blank = subst (λ l. r.skipped ≤ blank_length l) same (omega arith);
       buffered = ap (λ l. l ++ piece) r.buffered
-          ∙ sym (drop-append-le r.skipped (old.buffer ++ r.got) piece (omega (arith, blank_length-le (old.buffer ++ r.got))))
+          ∙ sym (drop-append-le r.skipped (old.buffer ++ r.got) piece
+          (omega (arith, blank_length-le (old.buffer ++ r.got))))
           ∙ ap (drop r.skipped) same;
       placed = r.placed;
       ready = IsReady-lengthened now piece r.ready fits;
     }
 
 -- bytes came
-pub IsRead-gains : (before : Option (List ℕ)) (old : Intake) (mid after : Option (List ℕ)) (now last : Intake) → IsRead before old mid now
+pub IsRead-gains : (before : Option (List ℕ)) (old : Intake) (mid after : Option (List ℕ)) (now last : Intake)
+    → IsRead before old mid now
     → Gains mid now after last → IsRead before old after last
 IsRead-gains before old mid after now last r gains =
     subst (IsRead before old after) (sym gains.now_is)
     (IsRead-lengthened before old mid after now gains.piece r gains.consumed gains.within)
 
 -- none came
-pub IsRead-kept : (before : Option (List ℕ)) (old : Intake) (mid after : Option (List ℕ)) (now last : Intake) → IsRead before old mid now
+pub IsRead-kept : (before : Option (List ℕ)) (old : Intake) (mid after : Option (List ℕ)) (now last : Intake)
+    → IsRead before old mid now
     → last ≡ now → Keeps mid after → IsRead before old after last
 IsRead-kept before old mid after now last r same kept = subst (IsRead before old after) (sym same) (record {
   got = r.got;

@@ -8,21 +8,27 @@ use Rattle.memchr.specs.Find.{Nowhere, Passes, is_byte}
 use Rattle.ecr_model.specs.http.Framing.{ends_empty, HasNoEnd}
 use Rattle.ecr_http.specs.Lines.{HasNoLine}
 
-pub length-slice_range : (bytes : List ℕ) (from to : ℕ) → to ≤ length bytes → length (slice_range bytes from to) ≡ to - from
-length-slice_range bytes from to within = omega (arith, length-take (to - from) (drop from bytes), length-drop from bytes)
+pub length-slice_range : (bytes : List ℕ) (from to : ℕ) → to ≤ length bytes
+    → length (slice_range bytes from to) ≡ to - from
+length-slice_range bytes from to within =
+    omega (arith, length-take (to - from) (drop from bytes), length-drop from bytes)
 
-slice_index-slice_range : (bytes : List ℕ) (from to k : ℕ) → k < to - from → slice_index (slice_range bytes from to) k ≡ slice_index bytes (from + k)
-slice_index-slice_range bytes from to k h = get_or-take (to - from) (drop from bytes) k 0 h ∙ get_or-drop from bytes k 0
+slice_index-slice_range : (bytes : List ℕ) (from to k : ℕ) → k < to - from
+    → slice_index (slice_range bytes from to) k ≡ slice_index bytes (from + k)
+slice_index-slice_range bytes from to k h =
+    get_or-take (to - from) (drop from bytes) k 0 h ∙ get_or-drop from bytes k 0
 
 -- no byte of a range is LF up to a place there
-pub HasNoLine-nowhere : (bytes : List ℕ) (from to at : ℕ) → at ≤ to - from → Nowhere (Passes (is_byte 10) (slice_range bytes from to)) 0 at
+pub HasNoLine-nowhere : (bytes : List ℕ) (from to at : ℕ) → at ≤ to - from
+    → Nowhere (Passes (is_byte 10) (slice_range bytes from to)) 0 at
     → HasNoLine bytes from (from + at)
 HasNoLine-nowhere bytes from to at within nowhere k after before =
     let i = k - 1 - from in
     let there : from + i ≡ k - 1 = omega arith in
     let same : slice_index (slice_range bytes from to) i ≡ slice_index bytes (k - 1) =
     slice_index-slice_range bytes from to i (omega arith) ∙ ap (slice_index bytes) there in
-    ap (λ b. b == 10) (sym same) ∙ false_from_ne_true (slice_index (slice_range bytes from to) i == 10) (nowhere i (omega arith) (omega arith))
+    ap (λ b. b == 10) (sym same) ∙ false_from_ne_true (slice_index (slice_range bytes from to) i == 10)
+    (nowhere i (omega arith) (omega arith))
 
 middle-false : (a b c : Bool) → b ≡ false → (a && b && c) ≡ false
 middle-false true b c h = ap (λ x. x && c) h
@@ -34,7 +40,8 @@ unfolding ends_empty
 ends_empty-no_line bytes k h = middle-false (nat_lt 1 k) (slice_index bytes (k - 1) == 10) _ h
 
 -- nor in bytes in which none ended, and no line behind them
-pub HasNoEnd-no_line : (bytes : List ℕ) (from to : ℕ) → HasNoEnd bytes from → HasNoLine bytes from to → HasNoEnd bytes to
+pub HasNoEnd-no_line : (bytes : List ℕ) (from to : ℕ) → HasNoEnd bytes from → HasNoLine bytes from to
+    → HasNoEnd bytes to
 HasNoEnd-no_line bytes from to none no_line k within =
     ⊎_elim (λ (behind : from < k). ends_empty-no_line bytes k (no_line k behind within))
     (λ (before : k ≤ from). none k before) (cases_lt from k)

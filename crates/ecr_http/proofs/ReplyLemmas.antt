@@ -16,14 +16,19 @@ concat-take_more blobs i blob inside at =
     ap concat (take_more blobs i blob inside) ∙ concat-append (take i blobs) (get_or blobs i blob ∷ [])
     ∙ ap (λ l. concat (take i blobs) ++ l) (append-nil (get_or blobs i blob) ∙ sym at)
 
-pub Appends-blob : (before mid after : Option (List ℕ)) (blobs : List (List ℕ)) (i : ℕ) (blob : List ℕ) → i < length blobs → blob ≡ get_or blobs i blob
-    → Appends before mid (concat (take i blobs)) → Appends mid after blob → Appends before after (concat (take (i + 1) blobs))
+pub Appends-blob : (before mid after : Option (List ℕ)) (blobs : List (List ℕ)) (i : ℕ) (blob : List ℕ)
+    → i < length blobs → blob ≡ get_or blobs i blob
+    → Appends before mid (concat (take i blobs)) → Appends mid after blob
+    → Appends before after (concat (take (i + 1) blobs))
 Appends-blob before mid after blobs i blob inside at first second =
-    subst (Appends before after) (sym (concat-take_more blobs i blob inside at)) (Appends-trans before mid after (concat (take i blobs)) blob first second)
+    subst (Appends before after) (sym (concat-take_more blobs i blob inside at))
+    (Appends-trans before mid after (concat (take i blobs)) blob first second)
 
 -- a blob that was cut short ends the blobs
-pub Sends-blob_cut : (before mid after : Option (List ℕ)) (blobs : List (List ℕ)) (i : ℕ) (blob : List ℕ) → i < length blobs → blob ≡ get_or blobs i blob
-    → Appends before mid (concat (take i blobs)) → Sends mid after blob WriteFault → Sends before after (concat blobs) WriteFault
+pub Sends-blob_cut : (before mid after : Option (List ℕ)) (blobs : List (List ℕ)) (i : ℕ) (blob : List ℕ)
+    → i < length blobs → blob ≡ get_or blobs i blob
+    → Appends before mid (concat (take i blobs)) → Sends mid after blob WriteFault
+    → Sends before after (concat blobs) WriteFault
 Sends-blob_cut before mid after blobs i blob inside at first second =
     let done = concat (take i blobs) in
     let rest = concat (drop (i + 1) blobs) in

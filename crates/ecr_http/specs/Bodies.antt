@@ -28,7 +28,8 @@ FitsLimit (Sized size) limit = size ≤ limit
 FitsLimit Chunked limit = ⊤
 
 -- the bytes of a body of that size are the first so far, and the others wait
-pub record Gathers (size : ℕ) (before : Option (List ℕ)) (old : Intake) (after : Option (List ℕ)) (now : Intake) (body : List ℕ) : Type 0 where
+pub record Gathers (size : ℕ) (before : Option (List ℕ)) (old : Intake) (after : Option (List ℕ)) (now : Intake)
+    (body : List ℕ) : Type 0 where
   pub come : IsGot before old after now
   pub joined : body ++ now.buffer ≡ old.buffer ++ come.got
   pub at_most : length body ≤ size
@@ -43,9 +44,11 @@ IsLess stops.Mem count size = ⊤
 -- the body grew, or is whole, or no more bytes come
 abbrev pub GathersOn : ℕ → Option (List ℕ) → Intake → Option (List ℕ) → Intake → List ℕ → Gathered → Type 0
 GathersOn size before old after now body gathereds.More = Gathers size before old after now body
-GathersOn size before old after now body gathereds.Whole = Gathers size before old after now body × (length body ≡ size)
+GathersOn size before old after now body gathereds.Whole =
+    Gathers size before old after now body × (length body ≡ size)
 GathersOn size before old after now body (gathereds.Stopped stop) =
-    Gathers size before old after now body × IsLess stop (length body + length now.buffer) size × IsStop stop after now.total
+    Gathers size before old after now body × IsLess stop (length body + length now.buffer) size
+    × IsStop stop after now.total
 
 -- where no more bytes come, less than a body is there, or there was no memory
 abbrev pub IsPartial : Stop → ℕ → List ℕ → Framing → Type 0
@@ -60,9 +63,11 @@ Shows limit bytes framing left now (takens.Body body size) =
     IsBody limit bytes framing (complete body.items size) × (now.buffer ≡ drop size bytes)
 Shows limit bytes framing left now takens.Bad = IsBody limit bytes framing (lacks bad)
 Shows limit bytes framing left now (takens.Long most) = IsBody limit bytes framing (lacks (too_long most))
-Shows limit bytes framing left now (takens.Stopped stop) = IsPartial stop limit bytes framing × IsStop stop left now.total
+Shows limit bytes framing left now (takens.Stopped stop) =
+    IsPartial stop limit bytes framing × IsStop stop left now.total
 
 -- a body was read, or what stands in its place
-pub record Bodies (limit : ℕ) (framing : Framing) (before : Option (List ℕ)) (old : Intake) (after : Option (List ℕ)) (now : Intake) (taken : Taken) : Type 0 where
+pub record Bodies (limit : ℕ) (framing : Framing) (before : Option (List ℕ)) (old : Intake) (after : Option (List ℕ))
+    (now : Intake) (taken : Taken) : Type 0 where
   pub come : IsGot before old after now
   pub shows : Shows limit (old.buffer ++ come.got) framing after now taken

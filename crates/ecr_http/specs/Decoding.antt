@@ -54,7 +54,8 @@ StandsAt limit p body buffer (stages.Data left) = IsInData limit p body buffer l
 StandsAt limit p body buffer (stages.Trailers scanned) = IsInTrailers p body buffer scanned
 
 -- the data so far is the body, and the buffer has what comes next
-pub record Decodes (limit : ℕ) (before : Option (List ℕ)) (old : Intake) (after : Option (List ℕ)) (now : Intake) (body : List ℕ) (stage : Stage) : Type 0 where
+pub record Decodes (limit : ℕ) (before : Option (List ℕ)) (old : Intake) (after : Option (List ℕ)) (now : Intake)
+    (body : List ℕ) (stage : Stage) : Type 0 where
   pub come : IsGot before old after now
   pub chunks : List (List ℕ)
   pub progress : Progress
@@ -62,7 +63,8 @@ pub record Decodes (limit : ℕ) (before : Option (List ℕ)) (old : Intake) (af
   pub stands : StandsAt limit progress body now.buffer stage
 
 -- the same, and more bytes are needed
-pub record Awaits (limit : ℕ) (before : Option (List ℕ)) (old : Intake) (after : Option (List ℕ)) (now : Intake) (body : List ℕ) (stage : Stage) : Type 0 where
+pub record Awaits (limit : ℕ) (before : Option (List ℕ)) (old : Intake) (after : Option (List ℕ)) (now : Intake)
+    (body : List ℕ) (stage : Stage) : Type 0 where
   pub decodes : Decodes limit before old after now body stage
   pub less : IsChunked limit (old.buffer ++ decodes.come.got) (lacks open_)
 
@@ -70,13 +72,15 @@ pub record Awaits (limit : ℕ) (before : Option (List ℕ)) (old : Intake) (aft
 abbrev pub Finds : ℕ → List ℕ → Option (List ℕ) → Intake → List ℕ → Next → Type 0
 Finds limit bytes left now body (nexts.Go stage) = ⊥
 Finds limit bytes left now body nexts.Whole =
-    (n : ℕ) × (n + length now.buffer ≡ length bytes) × IsChunked limit bytes (complete body n) × (now.buffer ≡ drop n bytes)
+    (n : ℕ) × (n + length now.buffer ≡ length bytes) × IsChunked limit bytes (complete body n)
+    × (now.buffer ≡ drop n bytes)
 Finds limit bytes left now body nexts.Bad = IsChunked limit bytes (lacks bad)
 Finds limit bytes left now body (nexts.Long most) = IsChunked limit bytes (lacks (too_long most))
 Finds limit bytes left now body (nexts.Stopped stop) = IsPartial stop limit bytes Chunked × IsStop stop left now.total
 
 -- the decoding has ended
-pub record Decoded (limit : ℕ) (before : Option (List ℕ)) (old : Intake) (after : Option (List ℕ)) (now : Intake) (body : List ℕ) (next : Next) : Type 0 where
+pub record Decoded (limit : ℕ) (before : Option (List ℕ)) (old : Intake) (after : Option (List ℕ)) (now : Intake)
+    (body : List ℕ) (next : Next) : Type 0 where
   pub come : IsGot before old after now
   pub finds : Finds limit (old.buffer ++ come.got) after now body next
 
@@ -86,7 +90,8 @@ DecodesOn limit before old after now body (nexts.Go stage) = Decodes limit befor
 DecodesOn limit before old after now body nexts.Whole = Decoded limit before old after now body nexts.Whole
 DecodesOn limit before old after now body nexts.Bad = Decoded limit before old after now body nexts.Bad
 DecodesOn limit before old after now body (nexts.Long most) = Decoded limit before old after now body (nexts.Long most)
-DecodesOn limit before old after now body (nexts.Stopped stop) = Decoded limit before old after now body (nexts.Stopped stop)
+DecodesOn limit before old after now body (nexts.Stopped stop) =
+    Decoded limit before old after now body (nexts.Stopped stop)
 
 -- the buffer at that stage
 abbrev pub IsScanned : List ℕ → Stage → Type 0

@@ -30,13 +30,15 @@ point_of intake closed = record { at = intake.at; ahead = intake.buffer; closed 
 -- the event for what stands at the front; the flag says whether a 100 was due
 abbrev pub Fronts : ℕ → List ℕ → Intake → Option (List ℕ) → Bool → Event → Type 0
 Fronts at bytes now left due (events.Request request) =
-    (count : ℕ) × IsFront at bytes (whole request count) × (now.at ≡ at + count) × (now.buffer ≡ drop count bytes) × IsReady now
+    (count : ℕ) × IsFront at bytes (whole request count) × (now.at ≡ at + count) × (now.buffer ≡ drop count bytes)
+    × IsReady now
     × (is_waiting request ≡ due)
 Fronts at bytes now left due events.End = (bytes ≡ []) × (due ≡ false) × IsAtEnd left × (now.total < max_read)
 Fronts at bytes now left due (events.Truncated place) =
     (place ≡ at) × IsFront at bytes (short due open_) × (0 < length bytes) × IsAtEnd left × (now.total < max_read)
 Fronts at bytes now left due (events.Bad place) = (place ≡ at) × IsFront at bytes (short due bad)
-Fronts at bytes now left due (events.TooLong place limit) = (place ≡ at) × IsFront at bytes (short due (too_long limit))
+Fronts at bytes now left due (events.TooLong place limit) = (place ≡ at)
+    × IsFront at bytes (short due (too_long limit))
 Fronts at bytes now left due events.ReadFault = IsFront at bytes (short due open_) × (now.total < max_read)
 Fronts at bytes now left due events.WriteFault = ⊥
 Fronts at bytes now left due events.Spent = IsFront at bytes (short due open_) × (max_read ≤ now.total)
@@ -50,7 +52,8 @@ pub record HasHead (bytes : List ℕ) (count : ℕ) (head : Head) (framing : Fra
   pub limit_is : limit ≡ max_body head.target
 
 -- the bytes that came of the source behind a head, and the event for them
-pub record Behind (before : Option (List ℕ)) (old : Intake) (after : Option (List ℕ)) (now : Intake) (due : Bool) (event : Event) : Type 0 where
+pub record Behind (before : Option (List ℕ)) (old : Intake) (after : Option (List ℕ)) (now : Intake) (due : Bool)
+    (event : Event) : Type 0 where
   pub got : List ℕ
   pub consumed : Consumes before after got
   pub counted : now.total ≡ old.total + length got

@@ -19,7 +19,8 @@ HasRoom End room = ⊤
 HasRoom Failed room = ⊤
 
 -- some bytes, at most so many, came from the source to the end of the buffer
-pub record Gains (most : ℕ) (before : Option (List ℕ)) (old : List ℕ) (after : Option (List ℕ)) (now : List ℕ) (n : ℕ) : Type 0 where
+pub record Gains (most : ℕ) (before : Option (List ℕ)) (old : List ℕ) (after : Option (List ℕ)) (now : List ℕ)
+    (n : ℕ) : Type 0 where
   pub piece : List ℕ
   pub consumed : Consumes before after piece
   pub count : length piece ≡ n

@@ -47,7 +47,8 @@ Shows bytes total left leads.Long = HasNoEnd bytes (min (length bytes) max_head)
 Shows bytes total left (leads.Stopped stop) = IsOpen stop bytes × IsStop stop left total
 
 -- the head was read, or what stands in its place
-pub record Leads (before : Option (List ℕ)) (old : Intake) (after : Option (List ℕ)) (now : Intake) (lead : Lead) : Type 0 where
+pub record Leads (before : Option (List ℕ)) (old : Intake) (after : Option (List ℕ)) (now : Intake)
+    (lead : Lead) : Type 0 where
   pub read : IsRead before old after now
   pub none : blank_length now.buffer ≡ 0
   pub shows : Shows now.buffer now.total after lead

@@ -12,7 +12,8 @@ use Rattle.ecr_http.specs.declared.write.Sent.TheVariants.{WriteFault}
 
 -- no whole request comes, and the stream goes on like that; the client was told to go on where it waited
 abbrev pub Shows : Bool → Point → Option (List ℕ) → Option (List ℕ) → Ending → Type 0
-Shows over p held now ending = (due : Bool) × Lacks over p (record { due = due; ending = ending }) × Appends held now (interim due)
+Shows over p held now ending = (due : Bool) × Lacks over p (record { due = due; ending = ending })
+    × Appends held now (interim due)
 
 -- nothing was told to the client, or to go on, since it waited
 abbrev pub MayTell : Point → List ℕ → Type 0
@@ -48,7 +49,8 @@ IsUnspent size events.Spent = ⊤
 IsUnspent size events.Mem = ⊤
 
 -- the effect of a reader's call: `got` was taken from the source
-pub record Nexts (before held : Option (List ℕ)) (p : Point) (after now : Option (List ℕ)) (q : Point) (event : Event) : Type 0 where
+pub record Nexts (before held : Option (List ℕ)) (p : Point) (after now : Option (List ℕ)) (q : Point)
+    (event : Event) : Type 0 where
   pub got : List ℕ
   pub consumed : Consumes before after got
   pub gives : Gives (grown p got) q after held now event

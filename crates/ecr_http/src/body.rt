@@ -80,7 +80,8 @@ impl Intake {
     // One step: what stands in the buffer goes to the body, or one read.
     fn gather<S: Source>(&mut self, source: &mut S, body: &mut Vec<u8>, size: usize) -> Gathered
         requires { length body.old.items ≤ size }
-        ensures goes_on { (before : Option (List ℕ)) (old : Intake) → Gathers size before old (S.left source.old) self.old body.old.items
+        ensures goes_on { (before : Option (List ℕ)) (old : Intake)
+            → Gathers size before old (S.left source.old) self.old body.old.items
             → GathersOn size before old (S.left source.new) self.new body.new.items result }
         ensures at_most { length body.new.items ≤ size }
         ensures nearer { result ≡ Gathered.More → left_to_read self.new < left_to_read self.old }

@@ -49,7 +49,8 @@ impl Intake {
         sink: &mut K,
     ) -> Event
         requires { IsReady self.old }
-        ensures next { Nexts (S.left source.old) (K.held sink.old) (point_of self.old false) (S.left source.new) (K.held sink.new) (point_of self.new (closes_after result)) result }
+        ensures next { Nexts (S.left source.old) (K.held sink.old) (point_of self.old false) (S.left source.new)
+            (K.held sink.new) (point_of self.new (closes_after result)) result }
         ensures ready { closes_after result ≡ false → IsReady self.new }
         ensures reads_later { S.faults source.old ≤ S.faults source.new }
         ensures writes_later { K.faults sink.old ≤ K.faults sink.new }
@@ -70,7 +71,8 @@ impl Intake {
     // What is given where no more bytes come: where none is left in the buffer, the input has ended between two requests.
     fn stopped(&self, stop: Stop) -> Event
         requires { IsOpen stop self.now.buffer }
-        ensures fronts { (left : Option (List ℕ)) → IsStop stop left self.now.total → Fronts self.now.at self.now.buffer self.now left false result }
+        ensures fronts { (left : Option (List ℕ)) → IsStop stop left self.now.total
+            → Fronts self.now.at self.now.buffer self.now left false result }
         ensures cause { result ≡ Event.ReadFault → stop ≡ Stop.Failed }
         ensures no_write { result ≡ Event.WriteFault → ⊥ }
         ensures last { closes_after result ≡ true }
@@ -101,7 +103,8 @@ impl Intake {
         requires ready { IsReady self.old }
         requires ends { IsEnd max_head self.old.buffer count }
         requires parses { Parses (take count self.old.buffer) (Some head) }
-        ensures next { (before : Option (List ℕ)) (old : Intake) → Leads before old (S.left source.old) self.old (lead.Head head count)
+        ensures next { (before : Option (List ℕ)) (old : Intake)
+            → Leads before old (S.left source.old) self.old (lead.Head head count)
             → Nexts before (K.held sink.old) (point_of old false) (S.left source.new) (K.held sink.new) (point_of self.new (closes_after result)) result }
         ensures ready { closes_after result ≡ false → IsReady self.new }
         ensures reads_later { S.faults source.old ≤ S.faults source.new }

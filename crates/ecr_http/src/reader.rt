@@ -52,7 +52,8 @@ impl Reader {
     /// What a body takes grows with what came of it, and not with what its length promised.
     pub fn next<S: Source, K: Sink>(&mut self, alloc: Global, source: &mut S, sink: &mut K) -> Event
         requires { self.old.closed ≡ false }
-        ensures next { Nexts (S.left source.old) (K.held sink.old) self.old (S.left source.new) (K.held sink.new) self.new result }
+        ensures next { Nexts (S.left source.old) (K.held sink.old) self.old (S.left source.new)
+            (K.held sink.new) self.new result }
         ensures reads_later { S.faults source.old ≤ S.faults source.new }
         ensures writes_later { K.faults sink.old ≤ K.faults sink.new }
         ensures read_cause { result ≡ Event.ReadFault → S.faults source.old < S.faults source.new }

@@ -13,5 +13,7 @@ apart : {A E : Type 0} (r : Result A E) (a : A) (e : E) → r ≡ Err e → r �
 apart r a e wrong right = cc
 
 -- a text that isn't decoded has no bytes
-pub refused : (text bytes : List ℕ) (e : DecodeAllocError) (d : DecodeError) → e ≡ Failed d → IsDecodeFailure standard text e → decode_of standard text ≡ Ok bytes → ⊥
-refused text bytes e d is wrong right = apart (decode_of standard text) bytes d (subst (λ e. IsDecodeFailure standard text e) is wrong) right
+pub refused : (text bytes : List ℕ) (e : DecodeAllocError) (d : DecodeError) → e ≡ Failed d
+    → IsDecodeFailure standard text e → decode_of standard text ≡ Ok bytes → ⊥
+refused text bytes e d is wrong right =
+    apart (decode_of standard text) bytes d (subst (λ e. IsDecodeFailure standard text e) is wrong) right

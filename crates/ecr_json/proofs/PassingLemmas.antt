@@ -12,34 +12,45 @@ use Rattle.ecr_json.specs.Passing.{behind, passed, passed_items, passed_members,
 use Rattle.ecr_json.proofs.ReadingLemmas.{converted-Some, converted-array, converted-object, items-more, items-refused, items-over, members-more, members-refused, members-no_key, members-over}
 
 -- an array is passed by its items
-pub passed-begin_array : (depth : ℕ) (ts : List Token) → 0 < depth → passed depth (Token.begin_array ∷ ts) ≡ passed_items (depth - 1) ts
+pub passed-begin_array : (depth : ℕ) (ts : List Token) → 0 < depth
+    → passed depth (Token.begin_array ∷ ts) ≡ passed_items (depth - 1) ts
 passed-begin_array depth ts some =
     let all = items (value (depth - 1)) (length ts) ts in
-    ap (λ o. behind (converted of_json o)) (value-begin_array depth ts some) ∙ ap behind (converted-array all) ∙ left-parse_map array (converted of_items all)
+    ap (λ o. behind (converted of_json o)) (value-begin_array depth ts some) ∙ ap behind (converted-array all)
+    ∙ left-parse_map array (converted of_items all)
 
 -- an object is passed by its members
-pub passed-begin_object : (depth : ℕ) (ts : List Token) → 0 < depth → passed depth (Token.begin_object ∷ ts) ≡ passed_members (depth - 1) ts
+pub passed-begin_object : (depth : ℕ) (ts : List Token) → 0 < depth
+    → passed depth (Token.begin_object ∷ ts) ≡ passed_members (depth - 1) ts
 passed-begin_object depth ts some =
     let all = members (value (depth - 1)) (length ts) ts in
-    ap (λ o. behind (converted of_json o)) (value-begin_object depth ts some) ∙ ap behind (converted-object all) ∙ left-parse_map object (converted (λ ms. of_members ms no_members) all)
+    ap (λ o. behind (converted of_json o)) (value-begin_object depth ts some) ∙ ap behind (converted-object all)
+    ∙ left-parse_map object (converted (λ ms. of_members ms no_members) all)
 
 -- no array stands where nothing may nest
-pub passed-deep_array : (depth : ℕ) (ts rest : List Token) → depth ≤ 0 → let opened = Token.begin_array ∷ ts in MatchBool (nat_lt 0 depth) (passed depth opened ≡ Some rest) (passed depth opened ≡ None)
+pub passed-deep_array : (depth : ℕ) (ts rest : List Token) → depth ≤ 0 → let opened =
+    Token.begin_array ∷ ts in MatchBool (nat_lt 0 depth) (passed depth opened ≡ Some rest) (passed depth opened ≡ None)
 unfolding value
 passed-deep_array zero ts rest h = refl
 passed-deep_array (suc depth) ts rest h = let never : ⊥ = omega arith in absurd never
 
 -- no object stands where nothing may nest
-pub passed-deep_object : (depth : ℕ) (ts rest : List Token) → depth ≤ 0 → let opened = Token.begin_object ∷ ts in MatchBool (nat_lt 0 depth) (passed depth opened ≡ Some rest) (passed depth opened ≡ None)
+pub passed-deep_object : (depth : ℕ) (ts rest : List Token) → depth ≤ 0 → let opened =
+    Token.begin_object ∷ ts in MatchBool (nat_lt 0 depth) (passed depth opened ≡ Some rest)
+    (passed depth opened ≡ None)
 unfolding value
 passed-deep_object zero ts rest h = refl
 passed-deep_object (suc depth) ts rest h = let never : ⊥ = omega arith in absurd never
 
 -- a number is passed where it is in range
-pub passed-number : (depth : ℕ) (s : List ℕ) (ts : List Token) (o : Option Number) → option_map number_view o ≡ number_of s
-    → let first = Token.number s ∷ ts in MatchBool (is_some o) (passed depth first ≡ Some ts) (passed depth first ≡ None)
-passed-number depth s ts None e = ap (λ r. behind (converted of_json r)) (value_is depth (Token.number s ∷ ts)) ∙ rw (← e)
-passed-number depth s ts (Some x) e = ap (λ r. behind (converted of_json r)) (value_is depth (Token.number s ∷ ts)) ∙ rw (← e)
+pub passed-number : (depth : ℕ) (s : List ℕ) (ts : List Token) (o : Option Number)
+    → option_map number_view o ≡ number_of s
+    → let first = Token.number s ∷ ts in MatchBool (is_some o) (passed depth first ≡ Some ts)
+    (passed depth first ≡ None)
+passed-number depth s ts None e =
+    ap (λ r. behind (converted of_json r)) (value_is depth (Token.number s ∷ ts)) ∙ rw (← e)
+passed-number depth s ts (Some x) e =
+    ap (λ r. behind (converted of_json r)) (value_is depth (Token.number s ∷ ts)) ∙ rw (← e)
 
 -- no value is in an empty text
 pub passed-empty : (depth : ℕ) → passed depth [] ≡ None
@@ -56,7 +67,8 @@ passed-shorter depth ts r e =
 
 module _ (depth : ℕ) (first left : List Token) where
   -- one item more is passed
-  pub PassesItems-more : (r : List Token) → PassesItems depth first left → after_end_array left ≡ None → passed depth left ≡ Some r → PassesItems depth first r
+  pub PassesItems-more : (r : List Token) → PassesItems depth first left → after_end_array left ≡ None
+      → passed depth left ≡ Some r → PassesItems depth first r
   PassesItems-more r h going e =
       let p = value depth in
       let d = left_some (converted of_json (p left)) r e in
@@ -65,20 +77,25 @@ module _ (depth : ℕ) (first left : List Token) where
       record {
         turns = h.turns - 1;
         enough = omega (arith, h.enough);
-        same = h.same ∙ ap behind (items-more p h.turns left r d.0 some going d.1) ∙ left-parse_map (item d.0) (converted of_items (items p (h.turns - 1) r));
+        same = h.same ∙ ap behind (items-more p h.turns left r d.0 some going d.1)
+            ∙ left-parse_map (item d.0) (converted of_items (items p (h.turns - 1) r));
       }
 
   -- an item is wrong
-  pub PassesItems-refused : PassesItems depth first left → after_end_array left ≡ None → passed depth left ≡ None → passed_items depth first ≡ None
+  pub PassesItems-refused : PassesItems depth first left → after_end_array left ≡ None → passed depth left ≡ None
+      → passed_items depth first ≡ None
   PassesItems-refused h going e =
-      h.same ∙ ap behind (items-refused (value depth) h.turns left going (left_none (converted of_json (value depth left)) e))
+      h.same ∙ ap behind (items-refused (value depth) h.turns left going
+      (left_none (converted of_json (value depth left)) e))
 
   -- no item is left
-  pub PassesItems-over : (r : List Token) → PassesItems depth first left → after_end_array left ≡ Some r → passed_items depth first ≡ Some r
+  pub PassesItems-over : (r : List Token) → PassesItems depth first left → after_end_array left ≡ Some r
+      → passed_items depth first ≡ Some r
   PassesItems-over r h e = h.same ∙ ap behind (items-over (value depth) h.turns left r h.enough e)
 
   -- one member more is passed
-  pub PassesMembers-more : (k : List ℕ) (s r : List Token) → PassesMembers depth first left → read_key left ≡ Some (Some k, s) → passed depth s ≡ Some r → PassesMembers depth first r
+  pub PassesMembers-more : (k : List ℕ) (s r : List Token) → PassesMembers depth first left
+      → read_key left ≡ Some (Some k, s) → passed depth s ≡ Some r → PassesMembers depth first r
   PassesMembers-more k s r h key e =
       let p = value depth in
       let d = left_some (converted of_json (p s)) r e in
@@ -93,14 +110,17 @@ module _ (depth : ℕ) (first left : List Token) where
       }
 
   -- a member has a wrong value
-  pub PassesMembers-refused : (k : List ℕ) (s : List Token) → PassesMembers depth first left → read_key left ≡ Some (Some k, s) → passed depth s ≡ None → passed_members depth first ≡ None
+  pub PassesMembers-refused : (k : List ℕ) (s : List Token) → PassesMembers depth first left
+      → read_key left ≡ Some (Some k, s) → passed depth s ≡ None → passed_members depth first ≡ None
   PassesMembers-refused k s h key e =
-      h.same ∙ ap behind (members-refused (value depth) h.found h.turns k left s key (left_none (converted of_json (value depth s)) e))
+      h.same ∙ ap behind (members-refused (value depth) h.found h.turns k left s key
+      (left_none (converted of_json (value depth s)) e))
 
   -- a member has no name
   pub PassesMembers-no_key : PassesMembers depth first left → read_key left ≡ None → passed_members depth first ≡ None
   PassesMembers-no_key h key = h.same ∙ ap behind (members-no_key (value depth) h.found h.turns left key)
 
   -- no member is left
-  pub PassesMembers-over : (r : List Token) → PassesMembers depth first left → read_key left ≡ Some (None, r) → passed_members depth first ≡ Some r
+  pub PassesMembers-over : (r : List Token) → PassesMembers depth first left → read_key left ≡ Some (None, r)
+      → passed_members depth first ≡ Some r
   PassesMembers-over r h key = h.same ∙ ap behind (members-over (value depth) h.found h.turns left r h.enough key)

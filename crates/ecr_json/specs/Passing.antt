@@ -33,4 +33,5 @@ pub record PassesMembers (depth : ℕ) (first left : List Token) : Type 0 where
   pub turns : ℕ
   pub found : Members
   pub enough : length left ≤ turns
-  pub same : passed_members depth first ≡ behind (converted (λ ms. of_members ms found) (members (value depth) turns left))
+  pub same : passed_members depth first ≡ behind
+      (converted (λ ms. of_members ms found) (members (value depth) turns left))

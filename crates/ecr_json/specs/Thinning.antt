@@ -20,7 +20,8 @@ thin_list depth ts = parse_map (λ ds. thin (array ds)) (converted of_items (ite
 
 -- `{}` and the tokens behind a list, by an item of it and those after it
 abbrev pub emptied : ℕ → List Token → Option (Data × List Token)
-emptied depth ts = option_map (λ rest. (object no_members, rest)) (option_and_then (passed_items depth) (passed depth ts))
+emptied depth ts = option_map (λ rest. (object no_members, rest))
+    (option_and_then (passed_items depth) (passed depth ts))
 
 -- the members of an object, and the tokens behind its brace
 abbrev pub read_members : ℕ → List Token → Option (Members × List Token)
@@ -41,16 +42,19 @@ pub record ReadsTexts (depth : ℕ) (first left : List Token) (vs : List Value) 
   pub turns : ℕ
   pub texts : List (List ℕ)
   pub enough : length left ≤ turns
-  pub same : converted of_items (items (value depth) (length first) first) ≡ parse_map (texts_before texts) (converted of_items (items (value depth) turns left))
+  pub same : converted of_items (items (value depth) (length first) first) ≡ parse_map (texts_before texts)
+      (converted of_items (items (value depth) turns left))
   pub kept : AreFirst vs texts
 
 -- the kept members have those of these names, each thinly
 pub record HasThin (names : List (List ℕ)) (kept all : Members) : Type 0 where
-  pub members : (name : List ℕ) → is_named name names ≡ true → get_member name kept ≡ option_map thin (get_member name all)
+  pub members : (name : List ℕ) → is_named name names ≡ true
+      → get_member name kept ≡ option_map thin (get_member name all)
 
 -- the member was read, and is kept where it is named
 abbrev pub Keeps : List (List ℕ) → List ℕ → Option (Data × List Token) → Members → Members → List Token → Type 0
-Keeps names name read old new rest = (d : Data) × (read ≡ Some (d, rest)) × ((all : Members) → HasThin names old all → HasThin names new (put name d all))
+Keeps names name read old new rest = (d : Data) × (read ≡ Some (d, rest))
+    × ((all : Members) → HasThin names old all → HasThin names new (put name d all))
 
 -- the members that began at `first` were read up to `left`
 pub record ReadsMembers (names : List (List ℕ)) (depth : ℕ) (first left : List Token) (kept : Members) : Type 0 where

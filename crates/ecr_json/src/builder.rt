@@ -76,7 +76,8 @@ impl Builder {
     pub fn bytes(&self, alloc: Global) -> Result<Vec<u8>, Mem>
         ensures text { IfOk result (λ b. has_float (view self.now) ≡ false → b.items ≡ compact_text (view self.now)) }
         ensures order { IfOk result (λ b. IsInOrder b.items (view self.now)) }
-        ensures reads_back { IfOk result (λ b. depth (view self.now) ≤ max_depth → read b.items ≡ Some (view self.now)) }
+        ensures reads_back { IfOk result
+            (λ b. depth (view self.now) ≤ max_depth → read b.items ≡ Some (view self.now)) }
     {
         self.object.to_vec(alloc)
     }

@@ -36,7 +36,8 @@ pub(crate) fn pass(reader: &mut Reader<'_>, token: Token<'_>, depth: usize) -> b
 /// Passes over the items of a list, and its bracket; whether they are right.
 #[cycle(skip)]
 pub(crate) fn skip_items(reader: &mut Reader<'_>, depth: usize) -> bool
-    ensures { MatchBool result (passed_items depth reader.old ≡ Some reader.new) (passed_items depth reader.old ≡ None) }
+    ensures { MatchBool result (passed_items depth reader.old ≡ Some reader.new)
+        (passed_items depth reader.old ≡ None) }
 {
     'items: while !reader.take_end_array() {
         if !skip(reader, depth) {
@@ -49,7 +50,8 @@ pub(crate) fn skip_items(reader: &mut Reader<'_>, depth: usize) -> bool
 /// Passes over the members of an object, and its brace; whether they are right.
 #[cycle(skip)]
 pub(crate) fn skip_members(reader: &mut Reader<'_>, depth: usize) -> bool
-    ensures { MatchBool result (passed_members depth reader.old ≡ Some reader.new) (passed_members depth reader.old ≡ None) }
+    ensures { MatchBool result (passed_members depth reader.old ≡ Some reader.new)
+        (passed_members depth reader.old ≡ None) }
 {
     'members: loop {
         match reader.next_key() {

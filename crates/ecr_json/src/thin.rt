@@ -164,7 +164,8 @@ fn read_token(
     token: Token<'_>,
     depth: usize,
 ) -> Result<Option<Value>, Mem>
-    ensures { IfOk result (λ o. thin_value depth (token_of token.entry ∷ reader.old) ≡ option_map (λ v. (view v, reader.new)) o) }
+    ensures { IfOk result (λ o. thin_value depth (token_of token.entry ∷ reader.old) ≡ option_map
+        (λ v. (view v, reader.new)) o) }
 {
     match token {
         Token::String(text) => Ok(Some(Value::try_from_str(alloc, text)?)),
@@ -216,7 +217,8 @@ fn read_list(alloc: Global, reader: &mut Reader<'_>, depth: usize) -> Result<Opt
 /// Keeps the text, unless there are enough.
 #[tactic(auto, unfolding(crate::specs::Thin::max_texts))]
 fn keep(alloc: Global, texts: &mut Vec<Value>, text: &str) -> Result<(), Mem>
-    ensures { OnOk result ((seen : List (List ℕ)) → AreFirst texts.old.items seen → AreFirst texts.new.items (seen ++ text.now ∷ [])) }
+    ensures { OnOk result ((seen : List (List ℕ)) → AreFirst texts.old.items seen
+        → AreFirst texts.new.items (seen ++ text.now ∷ [])) }
 {
     if texts.len() < MAX_TEXTS {
         let value = Value::try_from_str(alloc, text)?;

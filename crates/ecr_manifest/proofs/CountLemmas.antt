@@ -20,7 +20,8 @@ use Rattle.ecr_manifest.specs.Counts.{size, items_size, members_size}
 
 -- ---- from bytes to tokens
 
-lex_byte-length : (m : Mode) (c : Class) (x : ℕ) (xs : List ℕ) (k : Mode → List Lexeme) (n : ℕ) → ((m : Mode) → length (k m) ≤ n) → length (lex_byte m c x xs k) ≤ suc n
+lex_byte-length : (m : Mode) (c : Class) (x : ℕ) (xs : List ℕ) (k : Mode → List Lexeme) (n : ℕ)
+    → ((m : Mode) → length (k m) ≤ n) → length (lex_byte m c x xs k) ≤ suc n
 lex_byte-length between quote x xs k n h = omega (arith, h in_string)
 lex_byte-length between backslash x xs k n h = omega (arith, h in_word)
 lex_byte-length between operator x xs k n h = omega (arith, h between)
@@ -43,11 +44,13 @@ unfolding lex
 lex-length m [] = omega arith
 lex-length m (x ∷ xs) = lex_byte-length m (class x) x xs (λ next. lex next xs) (length xs) (λ next. lex-length next xs)
 
-if_allowed-length : (b : Bool) (t : Token) (k : Place → List Token) (p : Place) (n : ℕ) → ((p : Place) → length (k p) ≤ suc n) → length (if_allowed b t k p) ≤ suc (suc n)
+if_allowed-length : (b : Bool) (t : Token) (k : Place → List Token) (p : Place) (n : ℕ)
+    → ((p : Place) → length (k p) ≤ suc n) → length (if_allowed b t k p) ≤ suc (suc n)
 if_allowed-length true t k p n h = omega (arith, h p)
 if_allowed-length false t k p n h = omega arith
 
-place_token-length : (p : Place) (t : Token) (before_colon : Bool) (k : Place → List Token) (n : ℕ) → ((p : Place) → length (k p) ≤ suc n) → length (place_token p t before_colon k) ≤ suc (suc n)
+place_token-length : (p : Place) (t : Token) (before_colon : Bool) (k : Place → List Token) (n : ℕ)
+    → ((p : Place) → length (k p) ≤ suc n) → length (place_token p t before_colon k) ≤ suc (suc n)
 place_token-length p Token.begin_object b k n h = if_allowed-length (may_begin p) Token.begin_object k fresh n h
 place_token-length p Token.end_object b k n h = if_allowed-length (may_close p) Token.end_object k after_value n h
 place_token-length p Token.begin_array b k n h = if_allowed-length (may_begin p) Token.begin_array k fresh n h
@@ -66,10 +69,18 @@ punctuate-length fresh [] = omega arith
 punctuate-length after_value [] = omega arith
 punctuate-length after_comma [] = omega arith
 punctuate-length after_key [] = omega arith
-punctuate-length fresh (token t ∷ ls) = place_token-length fresh t (begins_colon ls) (λ next. punctuate next ls) (length ls) (λ next. punctuate-length next ls)
-punctuate-length after_value (token t ∷ ls) = place_token-length after_value t (begins_colon ls) (λ next. punctuate next ls) (length ls) (λ next. punctuate-length next ls)
-punctuate-length after_comma (token t ∷ ls) = place_token-length after_comma t (begins_colon ls) (λ next. punctuate next ls) (length ls) (λ next. punctuate-length next ls)
-punctuate-length after_key (token t ∷ ls) = place_token-length after_key t (begins_colon ls) (λ next. punctuate next ls) (length ls) (λ next. punctuate-length next ls)
+punctuate-length fresh (token t ∷ ls) =
+    place_token-length fresh t (begins_colon ls) (λ next. punctuate next ls) (length ls)
+    (λ next. punctuate-length next ls)
+punctuate-length after_value (token t ∷ ls) =
+    place_token-length after_value t (begins_colon ls) (λ next. punctuate next ls) (length ls)
+    (λ next. punctuate-length next ls)
+punctuate-length after_comma (token t ∷ ls) =
+    place_token-length after_comma t (begins_colon ls) (λ next. punctuate next ls) (length ls)
+    (λ next. punctuate-length next ls)
+punctuate-length after_key (token t ∷ ls) =
+    place_token-length after_key t (begins_colon ls) (λ next. punctuate next ls) (length ls)
+    (λ next. punctuate-length next ls)
 punctuate-length fresh (comma ∷ ls) = omega arith
 punctuate-length after_value (comma ∷ ls) = omega (arith, punctuate-length after_comma ls)
 punctuate-length after_comma (comma ∷ ls) = omega arith
@@ -89,11 +100,13 @@ abbrev AtMost : {A : Type 0} → (A → ℕ) → ℕ → Option A → Type 0
 AtMost f n None = ⊤
 AtMost f n (Some a) = f a ≤ n
 
-AtMost-map : {A B : Type 0} (f : A → ℕ) (g : B → ℕ) (m n : ℕ) (h : A → B) → ((a : A) → f a ≤ m → g (h a) ≤ n) → (o : Option A) → AtMost f m o → AtMost g n (option_map h o)
+AtMost-map : {A B : Type 0} (f : A → ℕ) (g : B → ℕ) (m n : ℕ) (h : A → B) → ((a : A) → f a ≤ m → g (h a) ≤ n)
+    → (o : Option A) → AtMost f m o → AtMost g n (option_map h o)
 AtMost-map f g m n h k None x = tt
 AtMost-map f g m n h k (Some a) x = k a x
 
-AtMost-and_then : {A B : Type 0} (f : A → ℕ) (g : B → ℕ) (m n : ℕ) (h : A → Option B) → ((a : A) → f a ≤ m → AtMost g n (h a)) → (o : Option A) → AtMost f m o → AtMost g n (option_and_then h o)
+AtMost-and_then : {A B : Type 0} (f : A → ℕ) (g : B → ℕ) (m n : ℕ) (h : A → Option B)
+    → ((a : A) → f a ≤ m → AtMost g n (h a)) → (o : Option A) → AtMost f m o → AtMost g n (option_and_then h o)
 AtMost-and_then f g m n h k None x = tt
 AtMost-and_then f g m n h k (Some a) x = k a x
 
@@ -109,7 +122,8 @@ flat : {A : Type 0} (o : Option A) → AtMost (λ _. 0) 0 o
 flat None = tt
 flat (Some a) = omega arith
 
-match_ordering-size : (o : Ordering) (a b c : Members) (n : ℕ) → members_size a ≤ n → members_size b ≤ n → members_size c ≤ n → members_size (match_ordering o a b c) ≤ n
+match_ordering-size : (o : Ordering) (a b c : Members) (n : ℕ) → members_size a ≤ n → members_size b ≤ n
+    → members_size c ≤ n → members_size (match_ordering o a b c) ≤ n
 match_ordering-size Less a b c n p q r = p
 match_ordering-size Equal a b c n p q r = q
 match_ordering-size Greater a b c n p q r = r
@@ -117,40 +131,50 @@ match_ordering-size Greater a b c n p q r = r
 put-size : (k : List ℕ) (d : Data) (ms : Members) → members_size (put k d ms) ≤ size d + members_size ms
 put-size k d no_members = omega arith
 put-size k d (member l e ms) =
-    match_ordering-size (slice_cmp nat_cmp k l) (member k d (member l e ms)) (member l d ms) (member l e (put k d ms)) (size d + members_size (member l e ms))
+    match_ordering-size (slice_cmp nat_cmp k l) (member k d (member l e ms)) (member l d ms) (member l e (put k d ms))
+    (size d + members_size (member l e ms))
     (omega arith) (omega arith) (omega (arith, put-size k d ms))
 
 mutual
   of_json-size : (j : json.Json) → AtMost size (length (json_tokens j)) (of_json j)
   of_json-size json.null = omega arith
   of_json-size (json.boolean b) = omega arith
-  of_json-size (json.number s) = AtMost-map (λ _. 0) size 0 1 number (λ a x. omega arith) (number_of s) (flat (number_of s))
+  of_json-size (json.number s) =
+      AtMost-map (λ _. 0) size 0 1 number (λ a x. omega arith) (number_of s) (flat (number_of s))
   of_json-size (json.string s) = omega arith
   of_json-size (json.array js) =
-      AtMost-map items_size size (length (items_tokens js)) (suc (length (items_tokens js))) array (λ a x. omega (arith, x)) (of_items js) (of_items-size js)
+      AtMost-map items_size size (length (items_tokens js)) (suc (length (items_tokens js))) array
+      (λ a x. omega (arith, x)) (of_items js) (of_items-size js)
   of_json-size (json.object ms) =
-      AtMost-map members_size size (length (members_tokens ms) + members_size no_members) (suc (length (members_tokens ms))) object (λ a x. omega (arith, x)) (of_members ms no_members) (of_members-size ms no_members)
+      AtMost-map members_size size (length (members_tokens ms) + members_size no_members)
+      (suc (length (members_tokens ms))) object (λ a x. omega (arith, x)) (of_members ms no_members)
+      (of_members-size ms no_members)
 
   of_items-size : (js : json.Items) → AtMost items_size (length (items_tokens js)) (of_items js)
   of_items-size json.no_items = omega arith
   of_items-size (json.item j js) =
       let n = length (json_tokens j ++ items_tokens js) in
       AtMost-and_then size items_size (length (json_tokens j)) n _
-      (λ d x. AtMost-map items_size items_size (length (items_tokens js)) n (item d) (λ ds y. omega (arith, x, y, length-append (json_tokens j) (items_tokens js))) (of_items js) (of_items-size js))
+      (λ d x. AtMost-map items_size items_size (length (items_tokens js)) n (item d)
+      (λ ds y. omega (arith, x, y, length-append (json_tokens j) (items_tokens js))) (of_items js)
+      (of_items-size js))
       (of_json j) (of_json-size j)
 
-  of_members-size : (ms : json.Members) (found : Members) → AtMost members_size (length (members_tokens ms) + members_size found) (of_members ms found)
+  of_members-size : (ms : json.Members) (found : Members)
+      → AtMost members_size (length (members_tokens ms) + members_size found) (of_members ms found)
   of_members-size json.no_members found = omega arith
   of_members-size (json.member name j ms) found =
       let n = length (members_tokens (json.member name j ms)) + members_size found in
       AtMost-and_then size members_size (length (json_tokens j)) n _
-      (λ d x. AtMost-more members_size (length (members_tokens ms) + members_size (put name d found)) n (of_members ms (put name d found))
+      (λ d x. AtMost-more members_size (length (members_tokens ms) + members_size (put name d found)) n
+      (of_members ms (put name d found))
       (omega (arith, x, put-size name d found, length-append (json_tokens j) (members_tokens ms)))
       (of_members-size ms (put name d found)))
       (of_json j) (of_json-size j)
 
 -- the whole text
-read_with : (ts : List Token) (o : Option (json.Json × List Token)) → ((j : json.Json) (r : List Token) → o ≡ Some (j, r) → ts ≡ json_tokens j ++ r)
+read_with : (ts : List Token) (o : Option (json.Json × List Token))
+    → ((j : json.Json) (r : List Token) → o ≡ Some (j, r) → ts ≡ json_tokens j ++ r)
     → AtMost (λ j. length (json_tokens j)) (length ts) (option_and_then (λ p. json.if_last p.0 p.1) o)
 read_with ts None h = tt
 read_with ts (Some (j, [])) h = omega (arith, ap length (h j [] refl), length-append (json_tokens j) [])
@@ -159,14 +183,17 @@ read_with ts (Some (j, t ∷ r)) h = tt
 pub read-size : (text : List ℕ) → AtMost size (suc (length text)) (read text)
 read-size text =
     AtMost-and_then (λ j. length (json_tokens j)) size (length (tokens text)) (suc (length text)) of_json
-    (λ j x. AtMost-more size (length (json_tokens j)) (suc (length text)) (of_json j) (omega (arith, x, tokens-length text)) (of_json-size j))
+    (λ j x. AtMost-more size (length (json_tokens j)) (suc (length text)) (of_json j)
+    (omega (arith, x, tokens-length text)) (of_json-size j))
     (option_and_then (λ p. json.if_last p.0 p.1) (json.value max_depth (tokens text)))
-    (read_with (tokens text) (json.value max_depth (tokens text)) (λ j r. value-json_tokens_back max_depth (tokens text) r j))
+    (read_with (tokens text) (json.value max_depth (tokens text))
+    (λ j r. value-json_tokens_back max_depth (tokens text) r j))
 
 -- what a body holds
 pub document-size : (body : List ℕ) (d : Data) → document body ≡ Some d → size d ≤ suc (length body)
 unfolding document
-document-size body d e = subst (AtMost size (suc (length body))) e (AtMost-cond size (suc (length body)) _ (read body) (read-size body))
+document-size body d e = subst (AtMost size (suc (length body))) e
+    (AtMost-cond size (suc (length body)) _ (read body) (read-size body))
 
 -- ---- a list in a value
 
@@ -190,7 +217,8 @@ as_array-size (string s) = tt
 as_array-size (array ds) = omega arith
 as_array-size (object ms) = tt
 
-match_ordering-AtMost : (o : Ordering) (a b c : Option Data) (n : ℕ) → AtMost size n a → AtMost size n b → AtMost size n c → AtMost size n (match_ordering o a b c)
+match_ordering-AtMost : (o : Ordering) (a b c : Option Data) (n : ℕ) → AtMost size n a → AtMost size n b
+    → AtMost size n c → AtMost size n (match_ordering o a b c)
 match_ordering-AtMost Less a b c n p q r = p
 match_ordering-AtMost Equal a b c n p q r = q
 match_ordering-AtMost Greater a b c n p q r = r
@@ -198,15 +226,18 @@ match_ordering-AtMost Greater a b c n p q r = r
 get_member-size : (k : List ℕ) (ms : Members) → AtMost size (members_size ms) (get_member k ms)
 get_member-size k no_members = tt
 get_member-size k (member l e ms) =
-    let later = AtMost-more size (members_size ms) (members_size (member l e ms)) (get_member k ms) (omega arith) (get_member-size k ms) in
-    match_ordering-AtMost (slice_cmp nat_cmp k l) (get_member k ms) (Some e) (get_member k ms) (members_size (member l e ms)) later (omega arith) later
+    let later = AtMost-more size (members_size ms) (members_size (member l e ms)) (get_member k ms) (omega arith)
+    (get_member-size k ms) in
+    match_ordering-AtMost (slice_cmp nat_cmp k l) (get_member k ms) (Some e) (get_member k ms)
+    (members_size (member l e ms)) later (omega arith) later
 
 -- one more around it
 AtMost-same : (n : ℕ) (o : Option Data) → AtMost size n o → AtMost (λ e. suc (size e)) (suc n) o
 AtMost-same n None x = tt
 AtMost-same n (Some e) x = omega (arith, x)
 
-array_in : (v : Data) (n : ℕ) (o : Option Items) → suc (size v) ≤ n → AtMost (λ ds. suc (items_size ds)) (size v) o → AtMost (λ ds. items_size ds + 2) n o
+array_in : (v : Data) (n : ℕ) (o : Option Items) → suc (size v) ≤ n → AtMost (λ ds. suc (items_size ds)) (size v) o
+    → AtMost (λ ds. items_size ds + 2) n o
 array_in v n None h x = tt
 array_in v n (Some ds) h x = omega (arith, h, x)
 
@@ -219,10 +250,13 @@ get-size k (array ds) = tt
 get-size k (object ms) = AtMost-same (members_size ms) (get_member k ms) (get_member-size k ms)
 
 -- the entries of a manifest
-pub entries_of-length : (list : Bool) (d : Data) (es : List (Option Descriptor)) → entries_of list d ≡ Some es → length es + 2 ≤ size d
+pub entries_of-length : (list : Bool) (d : Data) (es : List (Option Descriptor)) → entries_of list d ≡ Some es
+    → length es + 2 ≤ size d
 entries_of-length list d es e =
     subst (AtMost (λ (l : List (Option Descriptor)). length l + 2) (size d)) e
-    (AtMost-map (λ ds. items_size ds + 2) (λ (l : List (Option Descriptor)). length l + 2) (size d) (size d) descriptors (λ ds x. omega (arith, x, descriptors-length ds))
+    (AtMost-map (λ ds. items_size ds + 2) (λ (l : List (Option Descriptor)). length l + 2) (size d)
+    (size d) descriptors (λ ds x. omega (arith, x, descriptors-length ds))
     (option_and_then as_array (get (entries_name list) d))
     (AtMost-and_then (λ v. suc (size v)) (λ ds. items_size ds + 2) (size d) (size d) as_array
-    (λ v x. array_in v (size d) (as_array v) x (as_array-size v)) (get (entries_name list) d) (get-size (entries_name list) d)))
+    (λ v x. array_in v (size d) (as_array v) x (as_array-size v)) (get (entries_name list) d)
+    (get-size (entries_name list) d)))

@@ -14,14 +14,18 @@ through_last-push_other : (t : List ℕ) (x : ℕ) → (x ≡ 32 → ⊥) → th
 through_last-push_other [] x n = rw (ne_eqb x 32 n) refl
 through_last-push_other (b ∷ rest) x n =
     let e = through_last-push_other rest x n in
-    let some : (through_last (rest ++ x ∷ []) == 0) ≡ false = ne_eqb (through_last (rest ++ x ∷ [])) 0 (λ z. absurd (omega (arith, e, z))) in
+    let some : (through_last (rest ++ x ∷ []) == 0) ≡ false =
+    ne_eqb (through_last (rest ++ x ∷ [])) 0 (λ z. absurd (omega (arith, e, z))) in
     rw some (ap suc e)
 
-pub through_last-space : (t : List ℕ) (i : ℕ) → i < length t → get_or t i 0 ≡ 32 → through_last (take (i + 1) t) ≡ through_last (take i t)
+pub through_last-space : (t : List ℕ) (i : ℕ) → i < length t → get_or t i 0 ≡ 32
+    → through_last (take (i + 1) t) ≡ through_last (take i t)
 through_last-space t i h e =
-    ap through_last (take_more t i 0 h) ∙ ap (λ (x : ℕ). through_last (take i t ++ x ∷ [])) e ∙ through_last-push_space (take i t)
+    ap through_last (take_more t i 0 h) ∙ ap (λ (x : ℕ). through_last (take i t ++ x ∷ [])) e
+    ∙ through_last-push_space (take i t)
 
-pub through_last-other : (t : List ℕ) (i : ℕ) → i < length t → (get_or t i 0 ≡ 32 → ⊥) → through_last (take (i + 1) t) ≡ i + 1
+pub through_last-other : (t : List ℕ) (i : ℕ) → i < length t → (get_or t i 0 ≡ 32 → ⊥)
+    → through_last (take (i + 1) t) ≡ i + 1
 through_last-other t i h n =
     let len : length (take i t) ≡ i = length-take-le i t (omega arith) in
     let e : suc (length (take i t)) ≡ i + 1 = omega arith in

@@ -22,7 +22,8 @@ kept-added xs kept i e h k new =
     ∙ cond-false (is_kept (get_or xs i e).bytes kept) kept (kept ++ get_or xs i e ∷ []) new)
 
 -- one that is there changes nothing
-pub kept-present : (xs kept : List Digest) (i : ℕ) (e : Digest) → i < length xs → kept ≡ fold with_digest [] (take i xs)
+pub kept-present : (xs kept : List Digest) (i : ℕ) (e : Digest) → i < length xs
+    → kept ≡ fold with_digest [] (take i xs)
     → is_kept (get_or xs i e).bytes kept ≡ true → kept ≡ fold with_digest [] (take (i + 1) xs)
 kept-present xs kept i e h k there =
     sym (fold_more with_digest [] xs i e h ∙ ap (λ (l : List Digest). with_digest l (get_or xs i e)) (sym k)
@@ -43,9 +44,12 @@ or_swap false true = refl
 or_swap false false = refl
 
 -- what is asked of a list with one more
-is_kept-push : (q : List ℕ) (kept : List Digest) (d : Digest) → is_kept q (kept ++ d ∷ []) ≡ (is_kept q kept || bytes_eq q d.bytes)
+is_kept-push : (q : List ℕ) (kept : List Digest) (d : Digest)
+    → is_kept q (kept ++ d ∷ []) ≡ (is_kept q kept || bytes_eq q d.bytes)
 is_kept-push q [] d = or_none (bytes_eq q d.bytes)
-is_kept-push q (k ∷ rest) d = or_cons (bytes_eq q k.bytes) (is_kept q (rest ++ d ∷ [])) (is_kept q rest) (bytes_eq q d.bytes) (is_kept-push q rest d)
+is_kept-push q (k ∷ rest) d =
+    or_cons (bytes_eq q k.bytes) (is_kept q (rest ++ d ∷ [])) (is_kept q rest) (bytes_eq q d.bytes)
+    (is_kept-push q rest d)
 
 -- the order of the two doesn't matter
 bytes_eq-swap : (a b : List ℕ) → bytes_eq a b ≡ bytes_eq b a
@@ -54,7 +58,8 @@ bytes_eq-swap a b =
     (Decides-like (bytes_eq b a) sym sym (bytes_eq-Decides b a))
 
 -- as a set answers after the digest was added to it
-pub is_kept-added : (q : List ℕ) (kept : List Digest) (d : Digest) → is_kept q (kept ++ d ∷ []) ≡ cond (bytes_eq d.bytes q) true (is_kept q kept)
+pub is_kept-added : (q : List ℕ) (kept : List Digest) (d : Digest)
+    → is_kept q (kept ++ d ∷ []) ≡ cond (bytes_eq d.bytes q) true (is_kept q kept)
 is_kept-added q kept d =
     is_kept-push q kept d ∙ ap (λ (b : Bool). is_kept q kept || b) (bytes_eq-swap q d.bytes)
     ∙ or_swap (is_kept q kept) (bytes_eq d.bytes q)

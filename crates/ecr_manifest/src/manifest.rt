@@ -42,7 +42,8 @@ fn read_blobs(
     value: &Value,
 ) -> Result<Result<Facts, ManifestFault>, Mem>
     requires { size (view value.now) ≤ 2 ^ 32 }
-    ensures { IfOk result (λ r. r ≡ judged (is_list media.now) media.now (config_of (is_list media.now) (view value.now)) (entries_of (is_list media.now) (view value.now))) }
+    ensures { IfOk result (λ r. r ≡ judged (is_list media.now) media.now
+        (config_of (is_list media.now) (view value.now)) (entries_of (is_list media.now) (view value.now))) }
 {
     let list = is_list(media);
     let config = config_of(list, value);
@@ -192,7 +193,8 @@ fn entries_of(
 
 /// The list that the member is.
 fn array_of<'a>(value: &'a Value, name: &str) -> Option<&'a Vec<Value>>
-    ensures { option_map (λ v. items_view v.now.items) result ≡ option_and_then as_array (get name.now (view value.now)) }
+    ensures { option_map (λ v. items_view v.now.items) result ≡ option_and_then as_array
+        (get name.now (view value.now)) }
 {
     match member_of(value, name) {
         Some(member) => member.as_array(),

@@ -27,7 +27,8 @@ impl Plan {
 
     /// What the next call is to do: `None` where it is to fail, else how many bytes it moves at most.
     pub fn next(&mut self) -> Option<usize>
-        ensures most { result ≡ (if is_failing self.old.fails.items self.old.calls then None else Some (most_at self.old.sizes.items self.old.calls)) }
+        ensures most { result ≡ (if is_failing self.old.fails.items self.old.calls then None else Some
+            (most_at self.old.sizes.items self.old.calls)) }
         ensures calls { self.new.calls ≡ next_call self.old.calls }
         ensures sizes { self.new.sizes ≡ self.old.sizes }
         ensures fails { self.new.fails ≡ self.old.fails }

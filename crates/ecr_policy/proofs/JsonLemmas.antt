@@ -7,9 +7,12 @@ use Rattle.serde_json.specs.declared.value.Value.{Value}
 use Rattle.ecr_model.specs.documents.Policies.{are_among, is_prefix, are_prefixes, number_of, rules_of}
 
 -- the names of an object's members are the keys of its entries
-pub are_among-members_view : (names : List (List ℕ)) (es : List (String Global × Value)) → are_among names (members_view es) ≡ list_all (λ k. list_any (λ name. bytes_eq (string_bytes k) name) names) (map (λ e. e.0) es)
+pub are_among-members_view : (names : List (List ℕ)) (es : List (String Global × Value))
+    → are_among names (members_view es) ≡ list_all (λ k. list_any (λ name. bytes_eq (string_bytes k) name) names)
+    (map (λ e. e.0) es)
 are_among-members_view names [] = refl
-are_among-members_view names (e ∷ es) = ap (λ b. list_any (λ name. bytes_eq (string_bytes e.0) name) names && b) (are_among-members_view names es)
+are_among-members_view names (e ∷ es) =
+    ap (λ b. list_any (λ name. bytes_eq (string_bytes e.0) name) names && b) (are_among-members_view names es)
 
 pub ruleset members = (are_among-members_view)
 

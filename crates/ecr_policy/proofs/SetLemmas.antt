@@ -28,14 +28,17 @@ bytes_eq-swap a b =
     (Decides-like (bytes_eq b a) sym sym (bytes_eq-Decides b a))
 
 -- as a set in order answers
-is_among-slice_cmp : (texts : List (List ℕ)) (text : List ℕ) → list_any (λ t. is_eq (slice_cmp nat_cmp text t)) texts ≡ is_among texts text
+is_among-slice_cmp : (texts : List (List ℕ)) (text : List ℕ)
+    → list_any (λ t. is_eq (slice_cmp nat_cmp text t)) texts ≡ is_among texts text
 is_among-slice_cmp [] text = refl
-is_among-slice_cmp (t ∷ ts) text = λ i. (is_eq-slice_cmp text t ∙ bytes_eq-swap text t) i || is_among-slice_cmp ts text i
+is_among-slice_cmp (t ∷ ts) text =
+    λ i. (is_eq-slice_cmp text t ∙ bytes_eq-swap text t) i || is_among-slice_cmp ts text i
 
 -- ---- subsets
 
 -- a text of a subset
-is_among-subset : (xs ys : List (List ℕ)) → is_subset xs ys ≡ true → (text : List ℕ) → is_among xs text ≡ true → is_among ys text ≡ true
+is_among-subset : (xs ys : List (List ℕ)) → is_subset xs ys ≡ true → (text : List ℕ) → is_among xs text ≡ true
+    → is_among ys text ≡ true
 is_among-subset [] ys h text there = absurd (false≢true there)
 is_among-subset (x ∷ xs) ys h text there =
     let parts = and_parts (is_among ys x) (is_subset xs ys) h in
@@ -45,7 +48,8 @@ is_among-subset (x ∷ xs) ys h text there =
     (or_cases (bytes_eq x text) (is_among xs text) there)
 
 -- the texts of a subset are among the others
-is_subset-is_among : (xs ys : List (List ℕ)) → ((text : List ℕ) → is_among xs text ≡ true → is_among ys text ≡ true) → is_subset xs ys ≡ true
+is_subset-is_among : (xs ys : List (List ℕ)) → ((text : List ℕ) → is_among xs text ≡ true → is_among ys text ≡ true)
+    → is_subset xs ys ≡ true
 is_subset-is_among [] ys h = refl
 is_subset-is_among (x ∷ xs) ys h =
     and_from (is_among ys x) (is_subset xs ys)
@@ -59,13 +63,15 @@ same_answer a b f g = same_from_decides {P = a ≡ true} a b ((λ e. e), (λ e. 
 -- ---- lists in order
 
 -- two sets are the same exactly where the lists are
-pub pointwise-InOrder : (a b xs ys : List (List ℕ)) → InOrder a xs → InOrder b ys → pointwise bytes_eq a b ≡ (is_subset xs ys && is_subset ys xs)
+pub pointwise-InOrder : (a b xs ys : List (List ℕ)) → InOrder a xs → InOrder b ys
+    → pointwise bytes_eq a b ≡ (is_subset xs ys && is_subset ys xs)
 pointwise-InOrder a b xs ys p q =
     let same : is_subset xs ys && is_subset ys xs ≡ true → a ≡ b =
     λ e. let parts = and_parts (is_subset xs ys) (is_subset ys xs) e in
     btree_set_from_contains nat_list_cmp_total (record { keys = a }) (record { keys = b }) p.ascending q.ascending
     (λ text. is_among-slice_cmp a text ∙ p.same text
-    ∙ same_answer (is_among xs text) (is_among ys text) (is_among-subset xs ys parts.0 text) (is_among-subset ys xs parts.1 text)
+    ∙ same_answer (is_among xs text) (is_among ys text) (is_among-subset xs ys parts.0 text)
+    (is_among-subset ys xs parts.1 text)
     ∙ sym (q.same text) ∙ sym (is_among-slice_cmp b text))
     exact_bytes in
     let alike : a ≡ b → (text : List ℕ) → is_among xs text ≡ is_among ys text =
@@ -88,16 +94,19 @@ by_text = on (λ x. x.now) (slice_cmp nat_cmp)
 abbrev same_text : Bor (List ℕ) → Bor (List ℕ) → Bool
 same_text x y = bytes_eq x.now y.now
 
-below-now : (x : Bor (List ℕ)) (ts : List (Bor (List ℕ))) → AllByRecursion (λ y. by_text x y ≡ Less) ts → AllByRecursion (λ y. slice_cmp nat_cmp x.now y ≡ Less) (map (λ t. t.now) ts)
+below-now : (x : Bor (List ℕ)) (ts : List (Bor (List ℕ))) → AllByRecursion (λ y. by_text x y ≡ Less) ts
+    → AllByRecursion (λ y. slice_cmp nat_cmp x.now y ≡ Less) (map (λ t. t.now) ts)
 below-now x [] h = tt
 below-now x (t ∷ ts) h = (h.0, below-now x ts h.1)
 
-ascending-now : (ts : List (Bor (List ℕ))) → IsStrictlySortedBy by_text ts → IsStrictlySortedBy (slice_cmp nat_cmp) (map (λ t. t.now) ts)
+ascending-now : (ts : List (Bor (List ℕ))) → IsStrictlySortedBy by_text ts
+    → IsStrictlySortedBy (slice_cmp nat_cmp) (map (λ t. t.now) ts)
 unfolding IsStrictlySortedBy
 ascending-now [] h = tt
 ascending-now (t ∷ ts) h = (below-now t ts h.0, ascending-now ts h.1)
 
-is_among-now : (ts : List (Bor (List ℕ))) (text : List ℕ) → is_among (map (λ t. t.now) ts) text ≡ list_any (λ t. bytes_eq t.now text) ts
+is_among-now : (ts : List (Bor (List ℕ))) (text : List ℕ)
+    → is_among (map (λ t. t.now) ts) text ≡ list_any (λ t. bytes_eq t.now text) ts
 is_among-now [] text = refl
 is_among-now (t ∷ ts) text = ap (λ b. bytes_eq t.now text || b) (is_among-now ts text)
 
@@ -107,17 +116,21 @@ or_again false b = refl
 
 -- a test that equal texts pass alike finds the same among neighbours of which equal ones are dropped
 list_any-dedup_from : (text : List ℕ) (k : Bor (List ℕ)) (ts : List (Bor (List ℕ)))
-    → list_any (λ t. bytes_eq t.now text) (dedup_from same_text k ts) ≡ (bytes_eq k.now text || list_any (λ t. bytes_eq t.now text) ts)
+    → list_any (λ t. bytes_eq t.now text) (dedup_from same_text k ts) ≡
+    (bytes_eq k.now text || list_any (λ t. bytes_eq t.now text) ts)
 list_any-dedup_from text k [] = refl
 list_any-dedup_from text k (t ∷ ts) =
     cond_both (same_text t k) (dedup_from same_text k ts) (k ∷ dedup_from same_text t ts)
-    (λ kept. list_any (λ t. bytes_eq t.now text) kept ≡ (bytes_eq k.now text || (bytes_eq t.now text || list_any (λ t. bytes_eq t.now text) ts)))
+    (λ kept. list_any (λ t. bytes_eq t.now text) kept ≡
+    (bytes_eq k.now text || (bytes_eq t.now text || list_any (λ t. bytes_eq t.now text) ts)))
     (λ e. list_any-dedup_from text k ts
     ∙ sym (or_again (bytes_eq k.now text) (list_any (λ t. bytes_eq t.now text) ts))
-    ∙ ap (λ (x : List ℕ). bytes_eq k.now text || (bytes_eq x text || list_any (λ t. bytes_eq t.now text) ts)) (sym ((bytes_eq-Decides t.now k.now).0 e)))
+    ∙ ap (λ (x : List ℕ). bytes_eq k.now text || (bytes_eq x text || list_any (λ t. bytes_eq t.now text) ts))
+    (sym ((bytes_eq-Decides t.now k.now).0 e)))
     (λ e. ap (λ b. bytes_eq k.now text || b) (list_any-dedup_from text t ts))
 
-list_any-dedup : (text : List ℕ) (ts : List (Bor (List ℕ))) → list_any (λ t. bytes_eq t.now text) (dedup same_text ts) ≡ list_any (λ t. bytes_eq t.now text) ts
+list_any-dedup : (text : List ℕ) (ts : List (Bor (List ℕ)))
+    → list_any (λ t. bytes_eq t.now text) (dedup same_text ts) ≡ list_any (λ t. bytes_eq t.now text) ts
 list_any-dedup text [] = refl
 list_any-dedup text (t ∷ ts) = list_any-dedup_from text t ts
 
@@ -142,5 +155,7 @@ InOrder-dedup given sorted kept texts e permutation order filtered =
 pub have_same_texts-Prefixes : (c d : Choose) (xs ys : List (List ℕ)) → c ≡ Prefixes xs → d ≡ Prefixes ys
     → (is_subset (prefixes_of c) (prefixes_of d) && is_subset (prefixes_of d) (prefixes_of c)) ≡ have_same_texts c d
 have_same_texts-Prefixes c d xs ys p q =
-    subst (λ (a : Choose). (is_subset (prefixes_of a) (prefixes_of d) && is_subset (prefixes_of d) (prefixes_of a)) ≡ have_same_texts a d) (sym p)
-    (subst (λ (b : Choose). (is_subset xs (prefixes_of b) && is_subset (prefixes_of b) xs) ≡ have_same_texts (Prefixes xs) b) (sym q) refl)
+    subst (λ (a : Choose). (is_subset (prefixes_of a) (prefixes_of d) && is_subset (prefixes_of d) (prefixes_of a))
+    ≡ have_same_texts a d) (sym p)
+    (subst (λ (b : Choose). (is_subset xs (prefixes_of b) && is_subset (prefixes_of b) xs) ≡ have_same_texts
+    (Prefixes xs) b) (sym q) refl)

@@ -75,7 +75,8 @@ pub(crate) fn is_text_at(name: &str, text: &str, value: &Value) -> bool
 
 /// The list of a member, where it is there and is one.
 pub(crate) fn list_at<'a>(name: &str, value: &'a Value) -> Option<&'a Vec<Value>>
-    ensures { option_map (λ v. items_view v.now.items) result ≡ option_and_then as_array (get name.now (view value.now)) }
+    ensures { option_map (λ v. items_view v.now.items) result ≡ option_and_then as_array
+        (get name.now (view value.now)) }
 {
     match value.get(name) {
         Some(member) => member.as_array(),

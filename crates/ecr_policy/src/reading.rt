@@ -20,7 +20,8 @@ use std::alloc::Global;
 /// Rule 0 stands for the text.
 pub fn read(alloc: Global, text: &str) -> Result<Policy, PolicyRefusal>
     ensures taken { IfOk result (λ p. policy text.now ≡ Ok p) }
-    ensures refused { (rule cause : ℕ) → result ≡ Err (Bad rule cause) → policy text.now ≡ Err (record { rule = rule; cause = cause }) }
+    ensures refused { (rule cause : ℕ) → result ≡ Err (Bad rule cause)
+        → policy text.now ≡ Err (record { rule = rule; cause = cause }) }
 {
     match read_policy(alloc, text) {
         Ok(Ok(policy)) => Ok(policy),
@@ -98,7 +99,8 @@ fn read_rules(
     text: &str,
     list: Option<Vec<Value>>,
 ) -> Result<Result<Policy, PolicyFault>, Mem>
-    ensures { IfOk result (λ r. r ≡ answer (list_fault (option_map (λ v. items_view v.items) list)) (policy_of text.now (option_map (λ v. items_view v.items) list))) }
+    ensures { IfOk result (λ r. r ≡ answer (list_fault (option_map (λ v. items_view v.items) list))
+        (policy_of text.now (option_map (λ v. items_view v.items) list))) }
 {
     match list {
         Some(items) => listed(alloc, text, items),
@@ -109,7 +111,8 @@ fn read_rules(
 /// The policy of the items, or the first fault from cause 3 on.
 #[tactic(auto, using(crate::proofs::JsonLemmas::items, crate::proofs::ReadingLemmas::answers), unfolding(ecr_model::specs::documents::Policies::list_fault))]
 fn listed(alloc: Global, text: &str, items: Vec<Value>) -> Result<Result<Policy, PolicyFault>, Mem>
-    ensures { IfOk result (λ r. r ≡ answer (list_fault (Some (items_view items.items))) (policy_of text.now (Some (items_view items.items)))) }
+    ensures { IfOk result (λ r. r ≡ answer (list_fault (Some (items_view items.items)))
+        (policy_of text.now (Some (items_view items.items)))) }
 {
     if items.is_empty() || items.len() > 50 {
         return Ok(Err(of_text(3)));
@@ -128,7 +131,8 @@ fn together(
     rules: Listed<Rule>,
 ) -> Result<Result<Policy, PolicyFault>, Mem>
     requires { length rules ≤ 50 }
-    ensures { IfOk result (λ r. r ≡ answer (clashes_from 1 rules [] rules) (record { text = text.now; rules = by_number rules })) }
+    ensures { IfOk result (λ r. r ≡ answer (clashes_from 1 rules [] rules)
+        (record { text = text.now; rules = by_number rules })) }
 {
     if let Some(fault) = first_clash(alloc, rules.as_slice())? {
         return Ok(Err(fault));

@@ -205,7 +205,8 @@ fn texts_of(alloc: Global, items: Vec<Value>) -> Result<Listed<Text>, Mem>
 
 /// The texts among the items of the list.
 fn texts_in(alloc: Global, list: Option<Vec<Value>>) -> Result<Listed<Text>, Mem>
-    ensures { IfOk result (λ texts. texts ≡ texts_of (unwrap_or (option_map (λ v. items_view v.items) list) no_items)) }
+    ensures { IfOk result (λ texts. texts ≡ texts_of
+        (unwrap_or (option_map (λ v. items_view v.items) list) no_items)) }
 {
     match list {
         Some(items) => texts_of(alloc, items),

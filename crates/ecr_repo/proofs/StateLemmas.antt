@@ -19,19 +19,23 @@ unfolding journals.replay journals.IsSoundFrom
 IsKept-first key limits = record { sound = tt; leads = refl }
 
 -- a line of a later turn that changes the repository keeps the journal
-pub IsKept-entered : (key : RepoKey) (limits : Limits) (journal : List Line) (repository : Repository) (line : Line) (next : Repository)
-    → IsKept key limits journal repository → past journal ≤ line.ticket → after_line key limits repository line ≡ Some next
+pub IsKept-entered : (key : RepoKey) (limits : Limits) (journal : List Line) (repository : Repository) (line : Line)
+    (next : Repository)
+    → IsKept key limits journal repository → past journal ≤ line.ticket
+    → after_line key limits repository line ≡ Some next
     → IsKept key limits (journal ++ line ∷ []) next
 IsKept-entered key limits journal repository line next kept later changes =
     let there : after_line key limits (replay key limits journal) line ≡ Some next =
     subst (λ r. after_line key limits r line ≡ Some next) kept.leads changes in
     record {
       sound = IsSoundFrom-push (after_line key limits) 0 first_state journal line next kept.sound later there;
-      leads = sym (replay-push (after_line key limits) first_state journal line ∙ ap (λ o. unwrap_or o (replay key limits journal)) there);
+      leads = sym (replay-push (after_line key limits) first_state journal line
+          ∙ ap (λ o. unwrap_or o (replay key limits journal)) there);
     }
 
 -- so does entering a line only where it changes the repository
-pub IsKept-after : (key : RepoKey) (limits : Limits) (journal : List Line) (repository : Repository) (line : Line) (o : Option Repository)
+pub IsKept-after : (key : RepoKey) (limits : Limits) (journal : List Line) (repository : Repository) (line : Line)
+    (o : Option Repository)
     → IsKept key limits journal repository → past journal ≤ line.ticket → after_line key limits repository line ≡ o
     → IsKept key limits (if is_some o then journal ++ line ∷ [] else journal) (unwrap_or o repository)
 IsKept-after key limits journal repository line None kept later changes = kept
@@ -39,19 +43,22 @@ IsKept-after key limits journal repository line (Some next) kept later changes =
     IsKept-entered key limits journal repository line next kept later changes
 
 -- the line of a call makes of the repository what the call comes to
-pub after_line-line_of : (key : RepoKey) (limits : Limits) (repository : Repository) (caller : ℕ) (turn : Turn) (call : Call)
+pub after_line-line_of : (key : RepoKey) (limits : Limits) (repository : Repository) (caller : ℕ) (turn : Turn)
+    (call : Call)
     → after_line key limits repository (line_of caller turn call) ≡ (step key limits repository turn call).after
 unfolding after_line
 after_line-line_of key limits repository caller turn call = refl
 
 -- so a call's line, entered where the call changes the repository, keeps the journal
-pub IsKept-called : (key : RepoKey) (limits : Limits) (journal : List Line) (repository : Repository) (caller : ℕ) (turn : Turn) (call : Call)
+pub IsKept-called : (key : RepoKey) (limits : Limits) (journal : List Line) (repository : Repository) (caller : ℕ)
+    (turn : Turn) (call : Call)
     → IsKept key limits journal repository → past journal ≤ turn.ticket
     → IsKept key limits
     (if is_some (step key limits repository turn call).after then journal ++ line_of caller turn call ∷ [] else journal)
     (unwrap_or (step key limits repository turn call).after repository)
 IsKept-called key limits journal repository caller turn call kept later =
-    IsKept-after key limits journal repository (line_of caller turn call) (step key limits repository turn call).after kept later
+    IsKept-after key limits journal repository (line_of caller turn call)
+    (step key limits repository turn call).after kept later
     (after_line-line_of key limits repository caller turn call)
 
 -- a call that asks changes nothing
@@ -68,5 +75,6 @@ past_from-push low (l ∷ ls) line = past_from-push (suc l.ticket) ls line
 -- the next turn is later than what a turn enters
 pub the_next_turn_is_later : TheNextTurnIsLater
 the_next_turn_is_later s caller turn call later =
-    let push : past (s.journal ++ line_of caller turn call ∷ []) ≡ suc turn.ticket = past_from-push 0 s.journal (line_of caller turn call) in
+    let push : past (s.journal ++ line_of caller turn call ∷ []) ≡ suc turn.ticket =
+    past_from-push 0 s.journal (line_of caller turn call) in
     grind (arith, later, push)

@@ -7,7 +7,8 @@ use Rattle.ecr_repo.specs.States.{State, AnswersOnly, changes, after_call}
 
 -- a call that asks changes nothing
 abbrev pub AnAnswerChangesNothing : Type 0
-AnAnswerChangesNothing = (state : State) (turn : Turn) (call : Call) → AnswersOnly call → changes state turn call ≡ false
+AnAnswerChangesNothing = (state : State) (turn : Turn) (call : Call) → AnswersOnly call
+    → changes state turn call ≡ false
 
 -- the next ticket is above all in the journal after a turn, where the turn's own was before it
 abbrev pub TheNextTurnIsLater : Type 0

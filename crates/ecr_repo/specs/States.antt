@@ -25,7 +25,8 @@ repository_now state = replay state.key state.limits state.journal
 
 -- a turn in which no upload is completed, for a call without content
 abbrev pub turn_at : ℕ → ℕ → List SiteId → Turn
-turn_at ticket moment destinations = turn_of ticket None (record { moment = moment; destinations = destinations; given = None })
+turn_at ticket moment destinations =
+    turn_of ticket None (record { moment = moment; destinations = destinations; given = None })
 
 -- the outcome of a call in a turn
 abbrev pub outcome_of : State → Turn → Call → Outcome

@@ -87,10 +87,13 @@ impl RepoState {
         // The turn is later than all that changed the repository.
         requires later { past self.old.journal ≤ ticket }
         requires fits { Fits call.now load destinations.items }
-        ensures reply { IfOk result (λ out. out.reply ≡ reply_to self.old (turn_at ticket moment destinations.items) call.now) }
-        ensures changed { IfOk result (λ out. out.changed ≡ changes self.old (turn_at ticket moment destinations.items) call.now) }
+        ensures reply { IfOk result
+            (λ out. out.reply ≡ reply_to self.old (turn_at ticket moment destinations.items) call.now) }
+        ensures changed { IfOk result
+            (λ out. out.changed ≡ changes self.old (turn_at ticket moment destinations.items) call.now) }
         ensures contents { IfOk result (λ out. AreContents out.reply out.blobs.items) }
-        ensures entered { OnOk result (self.new ≡ after_call self.old caller (turn_at ticket moment destinations.items) call.now) }
+        ensures entered { OnOk result
+            (self.new ≡ after_call self.old caller (turn_at ticket moment destinations.items) call.now) }
         ensures err { OnErr result (self.new ≡ self.old) }
     {
         // All memory is taken before anything changes.

@@ -48,7 +48,8 @@ pub fn solo<S: Source, K: Sink, C: Clock>(
     ensures no_cuts { IsNoCommand (map string_bytes words.now) → result.cuts.items ≡ [] }
 
     // What a session reads, answers and writes, and how it ends.
-    ensures session { (fixed : Option ℕ) (sites : List SiteId) → IsSession (map string_bytes words.now) fixed sites → RunsSession sites fixed
+    ensures session { (fixed : Option ℕ) (sites : List SiteId) → IsSession (map string_bytes words.now) fixed sites
+        → RunsSession sites fixed
         (record { left = S.left source.old; held = K.held sink.old; told = C.told clock.old; read_faults = S.faults source.old; write_faults = K.faults sink.old })
         (record { left = S.left source.new; held = K.held sink.new; told = C.told clock.new; read_faults = S.faults source.new; write_faults = K.faults sink.new })
         result.cuts.items result.end }

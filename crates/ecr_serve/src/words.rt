@@ -23,7 +23,8 @@ pub struct SessionWords {
 /// Reads the words of a command: `session`, then `--clock` and a moment in decimal or neither, and then the words of
 /// 1 to 64 different sites. `None` where they are others.
 pub(crate) fn read_words(alloc: Global, words: &[String]) -> Result<Option<SessionWords>, Mem>
-    ensures { IfOk result (λ o. MatchOption o (IsNoCommand (map string_bytes words.now)) (λ s. IsSession (map string_bytes words.now) s.fixed s.sites)) }
+    ensures { IfOk result (λ o. MatchOption o (IsNoCommand (map string_bytes words.now))
+        (λ s. IsSession (map string_bytes words.now) s.fixed s.sites)) }
 {
     let [command, rest @ ..] = words else {
         return Ok(None);
@@ -37,7 +38,8 @@ pub(crate) fn read_words(alloc: Global, words: &[String]) -> Result<Option<Sessi
 
 /// Reads the words behind `session`.
 fn read_session(alloc: Global, words: &[String]) -> Result<Option<SessionWords>, Mem>
-    ensures { let all = codes "session" ∷ map string_bytes words.now in IfOk result (λ o. MatchOption o (IsNoCommand all) (λ s. IsSession all s.fixed s.sites)) }
+    ensures { let all = codes "session" ∷ map string_bytes words.now in IfOk result
+        (λ o. MatchOption o (IsNoCommand all) (λ s. IsSession all s.fixed s.sites)) }
 {
     let [option, moment, rest @ ..] = words else {
         return read_served(alloc, None, words);
@@ -51,7 +53,8 @@ fn read_session(alloc: Global, words: &[String]) -> Result<Option<SessionWords>,
 
 /// Reads the moment behind `--clock`, and the words behind it.
 fn read_fixed(alloc: Global, moment: &str, words: &[String]) -> Result<Option<SessionWords>, Mem>
-    ensures { let all = codes "session" ∷ codes "--clock" ∷ moment.now ∷ map string_bytes words.now in IfOk result (λ o. MatchOption o (IsNoCommand all) (λ s. IsSession all s.fixed s.sites)) }
+    ensures { let all = codes "session" ∷ codes "--clock" ∷ moment.now ∷ map string_bytes words.now in IfOk result
+        (λ o. MatchOption o (IsNoCommand all) (λ s. IsSession all s.fixed s.sites)) }
 {
     let Some(fixed) = read_moment(alloc, moment)? else {
         return Ok(None);
@@ -80,7 +83,9 @@ fn read_served(
 
 /// Reads the words of sites. `None` where one is no such word, or stands twice.
 fn read_sites(alloc: Global, words: &[String]) -> Result<Option<Listed<SiteId>>, Mem>
-    ensures { IfOk result (λ o. MatchOption o ((sites : List SiteId) → ¬ (AreSites (map string_bytes words.now) sites)) (AreSites (map string_bytes words.now))) }
+    ensures { IfOk result (λ o. MatchOption o
+        ((sites : List SiteId) → ¬ (AreSites (map string_bytes words.now) sites))
+        (AreSites (map string_bytes words.now))) }
 {
     let mut sites = Vec::new(alloc);
     for (i, word) in words.iter().enumerate() {
@@ -94,7 +99,9 @@ fn read_sites(alloc: Global, words: &[String]) -> Result<Option<Listed<SiteId>>,
 
 /// Reads the word of a site that isn't one of the earlier words.
 fn read_new(alloc: Global, earlier: &[String], word: &str) -> Result<Option<SiteId>, Mem>
-    ensures { IfOk result (λ o. MatchOption o ((site : SiteId) → ¬ (IsNew (map string_bytes earlier.now) word.now site)) (IsNew (map string_bytes earlier.now) word.now)) }
+    ensures { IfOk result (λ o. MatchOption o
+        ((site : SiteId) → ¬ (IsNew (map string_bytes earlier.now) word.now site))
+        (IsNew (map string_bytes earlier.now) word.now)) }
 {
     if has_word(earlier, word) {
         Ok(None)

@@ -25,27 +25,32 @@ Contains-behind y x xs c = (suc c.0, omega (arith, c.1), c.2)
 Contains-find : {X : Type 0} (test : X → Bool) (xs : List X) (x : X) → find test xs ≡ Some x → Contains xs x
 Contains-find test [] x found = absurd (let no : None ≡ Some x = found in cc)
 Contains-find test (y ∷ ys) x found = by (test y) found (λ e. Contains-find test ys x e) where
-  by : (b : Bool) → cond b (Some y) (find test ys) ≡ Some x → (find test ys ≡ Some x → Contains ys x) → Contains (y ∷ ys) x
+  by : (b : Bool) → cond b (Some y) (find test ys) ≡ Some x → (find test ys ≡ Some x → Contains ys x)
+      → Contains (y ∷ ys) x
   by true e rest = subst (λ z. Contains (y ∷ ys) z) (let same : y ≡ x = cc in same) (zero, omega arith, refl)
   by false e rest = Contains-behind y x ys (rest e)
 
 -- one of the served sites, or else one that is served
-Contains-or : (served : List SiteId) (base : SiteId) (o : Option SiteId) → ((s : SiteId) → o ≡ Some s → Contains served s) → Contains served base → Contains served (unwrap_or o base)
+Contains-or : (served : List SiteId) (base : SiteId) (o : Option SiteId)
+    → ((s : SiteId) → o ≡ Some s → Contains served s) → Contains served base → Contains served (unwrap_or o base)
 Contains-or served base None named at = at
 Contains-or served base (Some s) named at = named s refl
 
-Contains-either : (served : List SiteId) (o p : Option SiteId) → ((s : SiteId) → o ≡ Some s → Contains served s) → ((s : SiteId) → p ≡ Some s → Contains served s)
+Contains-either : (served : List SiteId) (o p : Option SiteId) → ((s : SiteId) → o ≡ Some s → Contains served s)
+    → ((s : SiteId) → p ≡ Some s → Contains served s)
     → (s : SiteId) → option_or o p ≡ Some s → Contains served s
 Contains-either served None p left right s e = right s e
 Contains-either served (Some t) p left right s e = left s e
 
-Contains-then : {X : Type 0} (served : List SiteId) (o : Option X) (f : X → Option SiteId) → ((x : X) (s : SiteId) → f x ≡ Some s → Contains served s)
+Contains-then : {X : Type 0} (served : List SiteId) (o : Option X) (f : X → Option SiteId)
+    → ((x : X) (s : SiteId) → f x ≡ Some s → Contains served s)
     → (s : SiteId) → option_and_then f o ≡ Some s → Contains served s
 Contains-then served None f each s e = absurd (let no : None ≡ Some s = e in cc)
 Contains-then served (Some x) f each s e = each x s e
 
 -- the site that a host names
-named_site-served : (served : List SiteId) (host : List ℕ) (s : SiteId) → named_site served host ≡ Some s → Contains served s
+named_site-served : (served : List SiteId) (host : List ℕ) (s : SiteId) → named_site served host ≡ Some s
+    → Contains served s
 unfolding named_site
 named_site-served served host s e =
     Contains-either served (first_with registry_host host served) (first_with api_host host served)
@@ -55,19 +60,23 @@ first_site-served : (served : List SiteId) → 0 < length served → Contains se
 first_site-served [] some = absurd (omega arith)
 first_site-served (s ∷ served) some = (zero, omega arith, refl)
 
-pub site_for-served : (served : List SiteId) (host : Option (List ℕ)) → 0 < length served → Contains served (site_for served host)
+pub site_for-served : (served : List SiteId) (host : Option (List ℕ)) → 0 < length served
+    → Contains served (site_for served host)
 unfolding site_for
 site_for-served served host some =
     Contains-or served (first_site served) (option_and_then (λ value. named_site served (without_port value)) host)
-    (Contains-then served host (λ value. named_site served (without_port value)) (λ value s e. named_site-served served (without_port value) s e))
+    (Contains-then served host (λ value. named_site served (without_port value))
+    (λ value s e. named_site-served served (without_port value) s e))
     (first_site-served served some)
 
 -- the site that a body names
-site_of-served : (base : SiteId) (served : List SiteId) (account : List ℕ) (s : SiteId) → site_of base served account ≡ Some s → Contains served s
+site_of-served : (base : SiteId) (served : List SiteId) (account : List ℕ) (s : SiteId)
+    → site_of base served account ≡ Some s → Contains served s
 unfolding site_of
 site_of-served base served account s e = Contains-find _ served s e
 
-site_in-served : (base : SiteId) (served : List SiteId) (values : List Valued) → Contains served base → Contains served (site_in base served values)
+site_in-served : (base : SiteId) (served : List SiteId) (values : List Valued) → Contains served base
+    → Contains served (site_in base served values)
 site_in-served base served values at =
     Contains-or served base (option_and_then (site_of base served) (text_at RegistryId values))
     (Contains-then served (text_at RegistryId values) (site_of base served) (site_of-served base served))
@@ -85,42 +94,53 @@ place_of-below (Some text) = by (is_decimal text) (digits_value text) where
 
 -- ---- what is asked
 
-asked_in-askable : (base : SiteId) (served : List SiteId) (values : List Valued) (made : Made) → Contains served base → IsAskable served (asked_in base served values made)
+asked_in-askable : (base : SiteId) (served : List SiteId) (values : List Valued) (made : Made) → Contains served base
+    → IsAskable served (asked_in base served values made)
 asked_in-askable base served values (one call) at = record { at = site_in-served base served values at; page = tt }
-asked_in-askable base served values several at = record { at = site_in-served base served values at; page = place_of-below (text_at NextToken values) }
+asked_in-askable base served values several at =
+    record { at = site_in-served base served values at; page = place_of-below (text_at NextToken values) }
 
 -- what is asked may be asked of a desk
 abbrev IsFit : List SiteId → Reading → Type 0
 IsFit served (asks asked) = IsAskable served asked
 IsFit served (refuses refusal) = Unit {0}
 
-unless_bad-fit : (served : List SiteId) (bad : Option Parameter) (reading : Reading) → IsFit served reading → IsFit served (unless_bad bad reading)
+unless_bad-fit : (served : List SiteId) (bad : Option Parameter) (reading : Reading) → IsFit served reading
+    → IsFit served (unless_bad bad reading)
 unless_bad-fit served None reading fit = fit
 unless_bad-fit served (Some parameter) reading fit = tt
 
-values-fit : (base : SiteId) (served : List SiteId) (action : Action) (values : List Valued) → Contains served base → IsFit served (values_reading base served action values)
+values-fit : (base : SiteId) (served : List SiteId) (action : Action) (values : List Valued) → Contains served base
+    → IsFit served (values_reading base served action values)
 unfolding values_reading made_by
 values-fit base served action values at =
-    unless_bad-fit served (first_bad base served values) (made_by base served action values) (asked_in-askable base served values (made_in action values) at)
+    unless_bad-fit served (first_bad base served values) (made_by base served action values)
+    (asked_in-askable base served values (made_in action values) at)
 
-typed-fit : (base : SiteId) (served : List SiteId) (action : Action) (body : Data) → Contains served base → IsFit served (typed_reading base served action body)
+typed-fit : (base : SiteId) (served : List SiteId) (action : Action) (body : Data) → Contains served base
+    → IsFit served (typed_reading base served action body)
 unfolding typed_reading
 typed-fit base served action body at = by (typed_members (members_of action) body) where
-  by : (o : Option (List Valued)) → IsFit served (option_map_or (values_reading base served action) o (refuses Serialization))
+  by : (o : Option (List Valued)) → IsFit served
+      (option_map_or (values_reading base served action) o (refuses Serialization))
   by None = tt
   by (Some values) = values-fit base served action values at
 
-body-fit : (base : SiteId) (served : List SiteId) (action : Action) (body : Option Data) → Contains served base → IsFit served (body_reading base served action body)
+body-fit : (base : SiteId) (served : List SiteId) (action : Action) (body : Option Data) → Contains served base
+    → IsFit served (body_reading base served action body)
 body-fit base served action None at = tt
 body-fit base served action (Some body) at = typed-fit base served action body at
 
-action-fit : (base : SiteId) (served : List SiteId) (action : Option Action) (body : List ℕ) → Contains served base → IsFit served (action_reading base served action body)
+action-fit : (base : SiteId) (served : List SiteId) (action : Option Action) (body : List ℕ) → Contains served base
+    → IsFit served (action_reading base served action body)
 action-fit base served None body at = tt
 action-fit base served (Some action) body at = body-fit base served action (document body) at
 
-reading-fit : (target body : List ℕ) (base : SiteId) (served : List SiteId) → Contains served base → IsFit served (reading target body base served)
+reading-fit : (target body : List ℕ) (base : SiteId) (served : List SiteId) → Contains served base
+    → IsFit served (reading target body base served)
 unfolding reading
 reading-fit target body base served at = action-fit base served (action_of target) body at
 
-pub reading-askable : (target body : List ℕ) (base : SiteId) (served : List SiteId) (asked : Asked) → Contains served base → reading target body base served ≡ asks asked → IsAskable served asked
+pub reading-askable : (target body : List ℕ) (base : SiteId) (served : List SiteId) (asked : Asked)
+    → Contains served base → reading target body base served ≡ asks asked → IsAskable served asked
 reading-askable target body base served asked at is = subst (IsFit served) is (reading-fit target body base served at)

@@ -28,27 +28,43 @@ begins_grown read got requests point begins = Begins-append (start read) got req
 pub within_grown : (read got : List ℕ) (requests : List Request) (point : Point) → Begins (start read) requests point
     → bytes_read (grown point got) ≤ max_read → length (read ++ got) ≤ max_read
 within_grown read got requests point begins within =
-    omega (arith, within, Begins-length (start (read ++ got)) requests (grown point got) (begins_grown read got requests point begins))
+    omega (
+      arith,
+      within,
+      Begins-length (start (read ++ got)) requests (grown point got)
+          (begins_grown read got requests point begins),
+    )
 
 -- fewer bytes were read than may be
 unspent_grown : (read got : List ℕ) (requests : List Request) (point : Point) → Begins (start read) requests point
     → bytes_read (grown point got) < max_read → length (read ++ got) < max_read
 unspent_grown read got requests point begins within =
-    omega (arith, within, Begins-length (start (read ++ got)) requests (grown point got) (begins_grown read got requests point begins))
+    omega (
+      arith,
+      within,
+      Begins-length (start (read ++ got)) requests (grown point got)
+          (begins_grown read got requests point begins),
+    )
 
 -- nothing was asked of the clock
-serviced_kept : (set : SettingOf DeskState) (before mid after : Outside) (exchanges : List Exchange) (account : Account) (last : DeskState)
-    → after.told ≡ mid.told → ServicedBy IsServedOver set before mid exchanges account last → ServicedBy IsServedOver set before after exchanges account last
+serviced_kept : (set : SettingOf DeskState) (before mid after : Outside) (exchanges : List Exchange)
+    (account : Account) (last : DeskState)
+    → after.told ≡ mid.told → ServicedBy IsServedOver set before mid exchanges account last
+    → ServicedBy IsServedOver set before after exchanges account last
 serviced_kept set before mid after exchanges account last told s = record {
   says = s.says;
-  served = subst (λ t. Chain IsServedOver (stands set set.first before.told) exchanges (stands set last t)) (sym told) s.served;
+  served = subst (λ t. Chain IsServedOver (stands set set.first before.told) exchanges (stands set last t))
+      (sym told) s.served;
 }
 
 -- ---- the ends of which all is known: all requests were answered, and this is what follows them
 
-ends_by : (set : SettingOf DeskState) (before mid after : Outside) (point : Point) (account : Account) (last : DeskState) (s : SoFar set before mid point account last)
-    (got : List ℕ) (over : Bool) (tail : Tail) (end : End) → point.closed ≡ false → after.told ≡ mid.told → Consumes mid.left after.left got
-    → Lacks over (grown point got) tail → (over ≡ true → IsAtEnd after.left) → Appends mid.held after.held (last_words tail) → Ends end tail.ending (length (s.read ++ got))
+ends_by : (set : SettingOf DeskState) (before mid after : Outside) (point : Point) (account : Account)
+    (last : DeskState) (s : SoFar set before mid point account last)
+    (got : List ℕ) (over : Bool) (tail : Tail) (end : End) → point.closed ≡ false → after.told ≡ mid.told
+    → Consumes mid.left after.left got
+    → Lacks over (grown point got) tail → (over ≡ true → IsAtEnd after.left)
+    → Appends mid.held after.held (last_words tail) → Ends end tail.ending (length (s.read ++ got))
     → bytes_read (grown point got) ≤ max_read → IsUnspent end tail.ending (length (s.read ++ got))
     → CompletedBy IsServedOver set before after account last end
 ends_by set before mid after point account last s got over tail end opened told consumed lacks at_end sent fits within unspent = record {
@@ -71,30 +87,43 @@ ends_by set before mid after point account last s got over tail end opened told 
 }
 
 -- where nothing is replied to what follows
-ends_silently : (set : SettingOf DeskState) (before mid after : Outside) (point : Point) (account : Account) (last : DeskState) (s : SoFar set before mid point account last)
-    (got : List ℕ) (over : Bool) (ending : Ending) (end : End) → point.closed ≡ false → after.told ≡ mid.told → Consumes mid.left after.left got
-    → reading.Shows over (grown point got) mid.held after.held ending → refusal_of ending ≡ [] → (over ≡ true → IsAtEnd after.left) → Ends end ending (length (s.read ++ got))
+ends_silently : (set : SettingOf DeskState) (before mid after : Outside) (point : Point) (account : Account)
+    (last : DeskState) (s : SoFar set before mid point account last)
+    (got : List ℕ) (over : Bool) (ending : Ending) (end : End) → point.closed ≡ false → after.told ≡ mid.told
+    → Consumes mid.left after.left got
+    → reading.Shows over (grown point got) mid.held after.held ending → refusal_of ending ≡ []
+    → (over ≡ true → IsAtEnd after.left) → Ends end ending (length (s.read ++ got))
     → bytes_read (grown point got) ≤ max_read → IsUnspent end ending (length (s.read ++ got))
     → CompletedBy IsServedOver set before after account last end
 ends_silently set before mid after point account last s got over ending end opened told consumed shows none at_end fits within unspent =
-    ends_by set before mid after point account last s got over (record { due = shows.0; ending = ending }) end opened told consumed shows.1 at_end
-    (subst (λ l. Appends mid.held after.held (interim shows.0 ++ l)) (sym none) (subst (Appends mid.held after.held) (sym (append-nil (interim shows.0))) shows.2)) fits within unspent
+    ends_by set before mid after point account last s got over
+    (record { due = shows.0; ending = ending }) end opened told consumed shows.1 at_end
+    (subst (λ l. Appends mid.held after.held (interim shows.0 ++ l)) (sym none)
+    (subst (Appends mid.held after.held) (sym (append-nil (interim shows.0))) shows.2)) fits within unspent
 
 not_over : {P : Type 0} → false ≡ true → P
 not_over e = absurd (let no : false ≡ true = e in cc)
 
-pub Serves-whole : (set : SettingOf DeskState) (before mid after : Outside) (point q : Point) (account : Account) (last : DeskState) → SoFar set before mid point account last
-    → point.closed ≡ false → Nexts mid.left mid.held point after.left after.held q events.End → after.told ≡ mid.told → ServesOver set before after account last ends.Whole
+pub Serves-whole : (set : SettingOf DeskState) (before mid after : Outside) (point q : Point) (account : Account)
+    (last : DeskState) → SoFar set before mid point account last
+    → point.closed ≡ false → Nexts mid.left mid.held point after.left after.held q events.End → after.told ≡ mid.told
+    → ServesOver set before after account last ends.Whole
 Serves-whole set before mid after point q account last s opened n told =
     ends_silently set before mid after point account last s n.got true ended ends.Whole opened told n.consumed n.gives.0 refl (λ e. n.gives.1) (inl refl) n.within (unspent_grown s.read n.got (requests_of s.exchanges) point s.begins n.unspent)
 
-pub Serves-truncated : (set : SettingOf DeskState) (before mid after : Outside) (point q : Point) (account : Account) (last : DeskState) (at : ℕ) → SoFar set before mid point account last
-    → point.closed ≡ false → Nexts mid.left mid.held point after.left after.held q (events.Truncated at) → after.told ≡ mid.told → ServesOver set before after account last (ends.Truncated at)
+pub Serves-truncated : (set : SettingOf DeskState) (before mid after : Outside) (point q : Point) (account : Account)
+    (last : DeskState) (at : ℕ) → SoFar set before mid point account last
+    → point.closed ≡ false → Nexts mid.left mid.held point after.left after.held q (events.Truncated at)
+    → after.told ≡ mid.told → ServesOver set before after account last (ends.Truncated at)
 Serves-truncated set before mid after point q account last at s opened n told =
-    ends_silently set before mid after point account last s n.got true (truncated at) (ends.Truncated at) opened told n.consumed n.gives.0 refl (λ e. n.gives.1) refl n.within (unspent_grown s.read n.got (requests_of s.exchanges) point s.begins n.unspent)
+    ends_silently set before mid after point account last s n.got true (truncated at)
+    (ends.Truncated at) opened told n.consumed n.gives.0 refl (λ e. n.gives.1) refl n.within
+    (unspent_grown s.read n.got (requests_of s.exchanges) point s.begins n.unspent)
 
-pub Serves-fault : (set : SettingOf DeskState) (before mid after : Outside) (point q : Point) (account : Account) (last : DeskState) → SoFar set before mid point account last
-    → point.closed ≡ false → Nexts mid.left mid.held point after.left after.held q events.ReadFault → after.told ≡ mid.told → mid.read_faults < after.read_faults
+pub Serves-fault : (set : SettingOf DeskState) (before mid after : Outside) (point q : Point) (account : Account)
+    (last : DeskState) → SoFar set before mid point account last
+    → point.closed ≡ false → Nexts mid.left mid.held point after.left after.held q events.ReadFault
+    → after.told ≡ mid.told → mid.read_faults < after.read_faults
     → ServesOver set before after account last ends.ReadFault
 Serves-fault set before mid after point q account last s opened n told rose =
     let later = s.reads_later in (
@@ -102,18 +131,23 @@ Serves-fault set before mid after point q account last s opened n told rose =
       ends_silently set before mid after point account last s n.got false more ends.ReadFault opened told n.consumed n.gives refl not_over refl n.within (unspent_grown s.read n.got (requests_of s.exchanges) point s.begins n.unspent),
     )
 
-pub Serves-spent : (set : SettingOf DeskState) (before mid after : Outside) (point q : Point) (account : Account) (last : DeskState) → SoFar set before mid point account last
-    → point.closed ≡ false → Nexts mid.left mid.held point after.left after.held q events.Spent → after.told ≡ mid.told → ServesOver set before after account last ends.Spent
+pub Serves-spent : (set : SettingOf DeskState) (before mid after : Outside) (point q : Point) (account : Account)
+    (last : DeskState) → SoFar set before mid point account last
+    → point.closed ≡ false → Nexts mid.left mid.held point after.left after.held q events.Spent
+    → after.told ≡ mid.told → ServesOver set before after account last ends.Spent
 Serves-spent set before mid after point q account last s opened n told =
-    let all = Begins-length (start (s.read ++ n.got)) (requests_of s.exchanges) (grown point n.got) (begins_grown s.read n.got (requests_of s.exchanges) point s.begins) in
+    let all = Begins-length (start (s.read ++ n.got)) (requests_of s.exchanges) (grown point n.got)
+    (begins_grown s.read n.got (requests_of s.exchanges) point s.begins) in
     let spent = n.gives.1 in
     let size : length (s.read ++ n.got) ≡ max_read = omega arith in
     ends_silently set before mid after point account last s n.got false more ends.Spent opened told n.consumed n.gives.0 refl not_over (refl, size) n.within tt
 
 -- ---- no memory
 
-pub Serves-mem : (set : SettingOf DeskState) (before mid after : Outside) (point q : Point) (account : Account) (last : DeskState) → SoFar set before mid point account last
-    → point.closed ≡ false → Nexts mid.left mid.held point after.left after.held q events.Mem → after.told ≡ mid.told → ServesOver set before after account last ends.Mem
+pub Serves-mem : (set : SettingOf DeskState) (before mid after : Outside) (point q : Point) (account : Account)
+    (last : DeskState) → SoFar set before mid point account last
+    → point.closed ≡ false → Nexts mid.left mid.held point after.left after.held q events.Mem → after.told ≡ mid.told
+    → ServesOver set before after account last ends.Mem
 Serves-mem set before mid after point q account last s opened n told = record {
   read = s.read ++ n.got;
   exchanges = s.exchanges;
@@ -129,7 +163,8 @@ Serves-mem set before mid after point q account last s opened n told = record {
 }
 
 -- there was no room for what is said, and nothing was read
-pub Serves-no_room : (set : SettingOf DeskState) (before mid : Outside) (point : Point) (account other : Account) (last : DeskState) → SoFar set before mid point account last
+pub Serves-no_room : (set : SettingOf DeskState) (before mid : Outside) (point : Point) (account other : Account)
+    (last : DeskState) → SoFar set before mid point account last
     → point.closed ≡ false → other ≡ account → ServesOver set before mid other last ends.Mem
 Serves-no_room set before mid point account other last s opened same =
     subst (λ a. ServesOver set before mid a last ends.Mem) (sym same) (record {
@@ -149,8 +184,10 @@ Serves-no_room set before mid point account other last s opened same =
 -- ---- a write that failed
 
 -- the client was being told to go on
-pub Serves-untold : (set : SettingOf DeskState) (before mid after : Outside) (point q : Point) (account : Account) (last : DeskState) → SoFar set before mid point account last
-    → point.closed ≡ false → Nexts mid.left mid.held point after.left after.held q events.WriteFault → after.told ≡ mid.told → mid.write_faults < after.write_faults
+pub Serves-untold : (set : SettingOf DeskState) (before mid after : Outside) (point q : Point) (account : Account)
+    (last : DeskState) → SoFar set before mid point account last
+    → point.closed ≡ false → Nexts mid.left mid.held point after.left after.held q events.WriteFault
+    → after.told ≡ mid.told → mid.write_faults < after.write_faults
     → ServesOver set before after account last ends.WriteFault
 Serves-untold set before mid after point q account last s opened n told rose =
     let later = s.writes_later in
@@ -177,18 +214,27 @@ Serves-untold set before mid after point q account last s opened n told rose =
 
 -- ---- what is no request was replied to, or the reply was cut short
 
-refused : (set : SettingOf DeskState) (before mid between after : Outside) (point : Point) (account : Account) (last : DeskState) (s : SoFar set before mid point account last)
-    (got : List ℕ) (ending : Ending) (expected end : End) → point.closed ≡ false → Consumes mid.left after.left got → after.told ≡ mid.told
-    → reading.Shows false (grown point got) mid.held between.held ending → SendsLast between.held after.held (refusal_of ending) expected end
-    → Ends expected ending (length (s.read ++ got)) → bytes_read (grown point got) ≤ max_read → IsUnspent expected ending (length (s.read ++ got))
-    → ((end ≡ expected) × CompletedBy IsServedOver set before after account last expected) ⊎ ((end ≡ ends.WriteFault) × CutOffBy IsServedOver set before after account last)
-refused set before mid between after point account last s got ending expected end opened consumed told shows (inl done) fits within unspent =
+refused : (set : SettingOf DeskState) (before mid between after : Outside) (point : Point) (account : Account)
+    (last : DeskState) (s : SoFar set before mid point account last)
+    (got : List ℕ) (ending : Ending) (expected end : End) → point.closed ≡ false → Consumes mid.left after.left got
+    → after.told ≡ mid.told
+    → reading.Shows false (grown point got) mid.held between.held ending
+    → SendsLast between.held after.held (refusal_of ending) expected end
+    → Ends expected ending (length (s.read ++ got)) → bytes_read (grown point got) ≤ max_read
+    → IsUnspent expected ending (length (s.read ++ got))
+    → ((end ≡ expected) × CompletedBy IsServedOver set before after account last expected)
+    ⊎ ((end ≡ ends.WriteFault) × CutOffBy IsServedOver set before after account last)
+refused set before mid between after point account last s got ending expected end opened consumed told shows
+    (inl done) fits within unspent =
     inl (
       done.0,
-      ends_by set before mid after point account last s got false (record { due = shows.0; ending = ending }) expected opened told consumed shows.1 not_over
-          (Appends-trans mid.held between.held after.held (interim shows.0) (refusal_of ending) shows.2 done.1) fits within unspent,
+      ends_by set before mid after point account last s got false
+          (record { due = shows.0; ending = ending }) expected opened told consumed shows.1 not_over
+          (Appends-trans mid.held between.held after.held (interim shows.0)
+          (refusal_of ending) shows.2 done.1) fits within unspent,
     )
-refused set before mid between after point account last s got ending expected end opened consumed told shows (inr cut) fits within unspent =
+refused set before mid between after point account last s got ending expected end opened consumed told shows
+    (inr cut) fits within unspent =
     let tail : Tail = record { due = shows.0; ending = ending } in
     let begins = begins_grown s.read got (requests_of s.exchanges) point s.begins in
     let sends : Sends between.held after.held (refusal_of ending) WriteFault = cut.1 in
@@ -210,47 +256,66 @@ refused set before mid between after point account last s got ending expected en
         is_last = inr (inr (
           false,
           tail,
-          record { point = grown point got; begins = begins; stops = subst (λ (shut : Bool). StopsBy shut false (grown point got) tail) (sym opened) shows.1 },
+          record {
+            point = grown point got;
+            begins = begins;
+            stops = subst (λ (shut : Bool). StopsBy shut false (grown point got) tail) (sym opened) shows.1;
+          },
           refl,
           refl,
         ));
         parts = sends.2;
         sent = Appends-trans before.held between.held after.held _ sends.0
-            (Appends-trans before.held mid.held between.held (sent_to s.exchanges) (interim shows.0) s.sent shows.2) sends.3;
+            (Appends-trans before.held mid.held between.held (sent_to s.exchanges)
+            (interim shows.0) s.sent shows.2) sends.3;
       },
     )
 
-serves_refused : (set : SettingOf DeskState) (before mid after : Outside) (account : Account) (last : DeskState) (expected end : End)
-    → (CompletedBy IsServedOver set before after account last expected → ServesOver set before after account last expected) → before.write_faults ≤ mid.write_faults
+serves_refused : (set : SettingOf DeskState) (before mid after : Outside) (account : Account) (last : DeskState)
+    (expected end : End)
+    → (CompletedBy IsServedOver set before after account last expected
+    → ServesOver set before after account last expected) → before.write_faults ≤ mid.write_faults
     → (end ≡ ends.WriteFault → mid.write_faults < after.write_faults)
-    → ((end ≡ expected) × CompletedBy IsServedOver set before after account last expected) ⊎ ((end ≡ ends.WriteFault) × CutOffBy IsServedOver set before after account last) → ServesOver set before after account last end
+    → ((end ≡ expected) × CompletedBy IsServedOver set before after account last expected)
+    ⊎ ((end ≡ ends.WriteFault) × CutOffBy IsServedOver set before after account last)
+    → ServesOver set before after account last end
 serves_refused set before mid after account last expected end keep later cause (inl done) =
     subst (λ (e : End). ServesOver set before after account last e) (sym done.0) (keep done.1)
 serves_refused set before mid after account last expected end keep later cause (inr cut) =
     let rose = cause cut.0 in
     subst (λ (e : End). ServesOver set before after account last e) (sym cut.0) (omega arith, cut.1)
 
-pub Serves-bad : (set : SettingOf DeskState) (before mid between after : Outside) (point q : Point) (account : Account) (last : DeskState) (at : ℕ) (end : End) → SoFar set before mid point account last
-    → point.closed ≡ false → Nexts mid.left mid.held point between.left between.held q (events.Bad at) → after.left ≡ between.left → after.told ≡ mid.told
-    → SendsLast between.held after.held bad_reply (ends.Bad at) end → mid.write_faults ≤ between.write_faults → (end ≡ ends.WriteFault → between.write_faults < after.write_faults)
+pub Serves-bad : (set : SettingOf DeskState) (before mid between after : Outside) (point q : Point)
+    (account : Account) (last : DeskState) (at : ℕ) (end : End) → SoFar set before mid point account last
+    → point.closed ≡ false → Nexts mid.left mid.held point between.left between.held q (events.Bad at)
+    → after.left ≡ between.left → after.told ≡ mid.told
+    → SendsLast between.held after.held bad_reply (ends.Bad at) end → mid.write_faults ≤ between.write_faults
+    → (end ≡ ends.WriteFault → between.write_faults < after.write_faults)
     → ServesOver set before after account last end
 Serves-bad set before mid between after point q account last at end s opened n left told sends later cause =
     let so_far = s.writes_later in
     serves_refused set before between after account last (ends.Bad at) end (λ done. done) (omega arith) cause
-    (refused set before mid between after point account last s n.got (bad_at at) (ends.Bad at) end opened (subst (λ l. Consumes mid.left l n.got) (sym left) n.consumed) told n.gives sends refl n.within tt)
+    (refused set before mid between after point account last s n.got (bad_at at) (ends.Bad at) end opened
+    (subst (λ l. Consumes mid.left l n.got) (sym left) n.consumed) told n.gives sends refl n.within tt)
 
-pub Serves-long : (set : SettingOf DeskState) (before mid between after : Outside) (point q : Point) (account : Account) (last : DeskState) (at limit : ℕ) (end : End) → SoFar set before mid point account last
-    → point.closed ≡ false → Nexts mid.left mid.held point between.left between.held q (events.TooLong at limit) → after.left ≡ between.left → after.told ≡ mid.told
-    → SendsLast between.held after.held (long_reply limit) (ends.TooLong at limit) end → mid.write_faults ≤ between.write_faults → (end ≡ ends.WriteFault → between.write_faults < after.write_faults)
+pub Serves-long : (set : SettingOf DeskState) (before mid between after : Outside) (point q : Point)
+    (account : Account) (last : DeskState) (at limit : ℕ) (end : End) → SoFar set before mid point account last
+    → point.closed ≡ false → Nexts mid.left mid.held point between.left between.held q (events.TooLong at limit)
+    → after.left ≡ between.left → after.told ≡ mid.told
+    → SendsLast between.held after.held (long_reply limit) (ends.TooLong at limit) end
+    → mid.write_faults ≤ between.write_faults → (end ≡ ends.WriteFault → between.write_faults < after.write_faults)
     → ServesOver set before after account last end
 Serves-long set before mid between after point q account last at limit end s opened n left told sends later cause =
     let so_far = s.writes_later in
     serves_refused set before between after account last (ends.TooLong at limit) end (λ done. done) (omega arith) cause
-    (refused set before mid between after point account last s n.got (long_at at limit) (ends.TooLong at limit) end opened (subst (λ l. Consumes mid.left l n.got) (sym left) n.consumed) told n.gives sends refl n.within tt)
+    (refused set before mid between after point account last s n.got (long_at at limit)
+    (ends.TooLong at limit) end opened
+    (subst (λ l. Consumes mid.left l n.got) (sym left) n.consumed) told n.gives sends refl n.within tt)
 
 -- ---- the last request closes the session
 
-pub Completed-closed : (set : SettingOf DeskState) (before after : Outside) (point : Point) (account : Account) (last : DeskState) → SoFar set before after point account last → point.closed ≡ true
+pub Completed-closed : (set : SettingOf DeskState) (before after : Outside) (point : Point) (account : Account)
+    (last : DeskState) → SoFar set before after point account last → point.closed ≡ true
     → CompletedBy IsServedOver set before after account last ends.Whole
 unfolding interim
 Completed-closed set before after point account last s shut =
@@ -262,7 +327,11 @@ Completed-closed set before after point account last s shut =
       tail = tail;
       consumed = s.consumed;
       at_end = not_over;
-      reads = record { point = point; begins = s.begins; stops = subst (λ (c : Bool). StopsBy c false point tail) (sym shut) refl };
+      reads = record {
+        point = point;
+        begins = s.begins;
+        stops = subst (λ (c : Bool). StopsBy c false point tail) (sym shut) refl;
+      };
       serviced = s.serviced;
       sent = subst (Appends before.held after.held) (sym (append-nil (sent_to s.exchanges))) s.sent;
       ends = inr refl;

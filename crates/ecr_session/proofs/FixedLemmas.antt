@@ -5,7 +5,8 @@ use Rattle.ecr_model.specs.http.Framing.{max_head}
 use Rattle.ecr_model.specs.http.Replies.{empty_reply, long_reply}
 
 -- the limit is that of a head
-pub long_reply-head : (limit : ℕ) → limit ≡ 65536 → long_reply limit ≡ empty_reply true (codes "431 Request Header Fields Too Large")
+pub long_reply-head : (limit : ℕ) → limit ≡ 65536
+    → long_reply limit ≡ empty_reply true (codes "431 Request Header Fields Too Large")
 unfolding long_reply max_head
 long_reply-head limit same = ap (empty_reply true) (cond-true _ _ _ (eq-eqb limit 65536 same))
 

@@ -18,7 +18,8 @@ abbrev lower : List ℕ → List ℕ
 lower text = map to_ascii_lowercase text
 
 -- a text that doesn't begin with the front isn't the front and an end
-pub no_front : (text front end : List ℕ) → str_eq_ignore_ascii_case (take (length front) text) front ≡ false → str_eq_ignore_ascii_case text (front ++ end) ≡ false
+pub no_front : (text front end : List ℕ) → str_eq_ignore_ascii_case (take (length front) text) front ≡ false
+    → str_eq_ignore_ascii_case text (front ++ end) ≡ false
 no_front text front end other = false_from_ne_true _ (λ e.
     let same = (bytes_eq-Decides (lower text) (lower (front ++ end))).0 e in
     let begins = sym (take-map to_ascii_lowercase (length front) text) ∙ ap (take (length front)) same
@@ -31,7 +32,8 @@ pub at_front : (text front end : List ℕ) → str_eq_ignore_ascii_case (take (l
 at_front text front end same =
     let rest = drop (length front) text in
     let split : lower text ≡ lower front ++ lower rest =
-    ap lower (sym (take-append-drop (length front) text)) ∙ map-append to_ascii_lowercase (take (length front) text) rest
+    ap lower (sym (take-append-drop (length front) text))
+    ∙ map-append to_ascii_lowercase (take (length front) text) rest
     ∙ ap (λ l. l ++ lower rest) ((bytes_eq-Decides (lower (take (length front) text)) (lower front)).0 same) in
     let whole : lower (front ++ end) ≡ lower front ++ lower end = map-append to_ascii_lowercase front end in
     same_from_decides _ _
@@ -46,10 +48,12 @@ at_front text front end same =
 pub without_port-none : (host : List ℕ) → ((k : ℕ) → k < length host → get_or host k 0 ≢ 58) → without_port host ≡ host
 unfolding without_port
 without_port-none host none =
-    let any = list_any_none is_colon host (All-from_get_or (λ c. is_colon c ≡ false) host 0 (λ k inside. ne_eqb (get_or host k 0) 58 (none k inside))) in
+    let any = list_any_none is_colon host
+    (All-from_get_or (λ c. is_colon c ≡ false) host 0 (λ k inside. ne_eqb (get_or host k 0) 58 (none k inside))) in
     cond-false _ _ _ (and_left _ _ any)
 
-pub without_port-last : (host : List ℕ) (i : ℕ) → i < length host → get_or host i 0 ≡ 58 → ((k : ℕ) → i + 1 ≤ k → k < length host → get_or host k 0 ≢ 58)
+pub without_port-last : (host : List ℕ) (i : ℕ) → i < length host → get_or host i 0 ≡ 58
+    → ((k : ℕ) → i + 1 ≤ k → k < length host → get_or host k 0 ≢ 58)
     → without_port host ≡ cond (is_port (drop (i + 1) host)) (take i host) host
 unfolding without_port
 without_port-last host i inside here behind =

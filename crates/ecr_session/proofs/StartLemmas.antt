@@ -21,24 +21,29 @@ unfolding max_read
 nothing_read = omega arith
 
 -- no request was serviced
-nothing_serviced : {W : Type 0} (serves : StandingOf W → Exchange → StandingOf W → Type 0) (set : SettingOf W) (before : Outside)
+nothing_serviced : {W : Type 0} (serves : StandingOf W → Exchange → StandingOf W → Type 0) (set : SettingOf W)
+    (before : Outside)
     → ServicedBy serves set before before [] no_account set.first
 unfolding no_account
 nothing_serviced serves set before = record { says = refl; served = refl }
 
 -- lists without items say nothing
-pub Account-nil : (moments : List ℕ) (places : List (List Place)) (cuts : List Cut) → moments ≡ [] → places ≡ [] → cuts ≡ []
-    → (let account : Account = record { moments = moments; places = places; cuts = cuts } in account) ≡ record { moments = []; places = []; cuts = [] }
+pub Account-nil : (moments : List ℕ) (places : List (List Place)) (cuts : List Cut) → moments ≡ [] → places ≡ []
+    → cuts ≡ []
+    → (let account : Account = record { moments = moments; places = places; cuts = cuts } in account)
+    ≡ record { moments = []; places = []; cuts = [] }
 Account-nil moments places cuts a b c = cc
 
 -- a fresh session says nothing
 account-fresh : (session : Session) → IsFresh session → account_in session ≡ no_account
 unfolding no_account
 account-fresh session fresh =
-    Account-nil session.moments.items (map (λ v. v.items) session.places.items) session.cuts.items fresh.moments (ap (map (λ v. v.items)) fresh.places) fresh.cuts
+    Account-nil session.moments.items (map (λ v. v.items) session.places.items) session.cuts.items fresh.moments
+    (ap (map (λ v. v.items)) fresh.places) fresh.cuts
 
 -- a session begins where nothing was read
-pub HasCome-start : (set : SettingOf DeskState) (before : Outside) (session : Session) (seen : DeskState) → IsFresh session
+pub HasCome-start : (set : SettingOf DeskState) (before : Outside) (session : Session) (seen : DeskState)
+    → IsFresh session
     → seen.realm ≡ set.realm → seen ≡ set.first → HasCome set before before session seen
 unfolding no_account
 HasCome-start set before session seen fresh realm first = record {
@@ -58,11 +63,14 @@ HasCome-start set before session seen fresh realm first = record {
 }
 
 -- a session that isn't begun has told nothing
-pub Serves-nothing : {W : Type 0} (serves : StandingOf W → Exchange → StandingOf W → Type 0) (set : SettingOf W) (before : Outside) (account : Account) (end : End) → account ≡ record { moments = []; places = []; cuts = [] } → end ≡ ends.Mem
+pub Serves-nothing : {W : Type 0} (serves : StandingOf W → Exchange → StandingOf W → Type 0) (set : SettingOf W)
+    (before : Outside) (account : Account) (end : End) → account ≡ record { moments = []; places = []; cuts = [] }
+    → end ≡ ends.Mem
     → ServesBy serves set before before account set.first end
 unfolding no_account
 Serves-nothing serves set before account end none mem =
-    subst (λ e. ServesBy serves set before before account set.first e) (sym mem) (subst (λ a. AnsweredBy serves set before before a set.first) (sym none) (record {
+    subst (λ e. ServesBy serves set before before account set.first e) (sym mem)
+    (subst (λ a. AnsweredBy serves set before before a set.first) (sym none) (record {
       read = [];
       exchanges = [];
       within = nothing_read;

@@ -24,7 +24,8 @@ use Rattle.ecr_session.specs.Serving.{Answers, IsAnswered, IsFailed, IsServedOve
 
 -- the reply with its content, as bytes, the places and the cut are those of the request, and what is on the desk afterwards
 -- is what it leaves
-record AnswersAlone (before after : StillState) (moment : ℕ) (request : Request) (contents : List (List ℕ)) (bytes : List ℕ) (places : List Place) (cut : Cut) : Type 0 where
+record AnswersAlone (before after : StillState) (moment : ℕ) (request : Request) (contents : List (List ℕ))
+    (bytes : List ℕ) (places : List Place) (cut : Cut) : Type 0 where
   carries : map content_digest contents ≡ named_to before.realm before.world moment cut request
   bytes_are : bytes ≡ written before.realm before.world moment cut request contents
   realm_stays : after.realm ≡ before.realm
@@ -37,8 +38,10 @@ not_failed : (b : Bool) → b ≡ true → b ≡ false → ⊥
 not_failed b is other = absurd (let no : true ≡ false = sym is ∙ other in cc)
 
 -- what is written, and what is left, where it didn't fail
-written-served : (realm : Realm) (world : World) (moment : ℕ) (cut : Cut) (request : Request) (contents : List (List ℕ)) → cut.failed ≡ false
-    → written realm world moment cut request contents ≡ posed_bytes (posed_of realm.served request) (closes request) (outcome_of realm world moment request).answer.reply contents
+written-served : (realm : Realm) (world : World) (moment : ℕ) (cut : Cut) (request : Request)
+    (contents : List (List ℕ)) → cut.failed ≡ false
+    → written realm world moment cut request contents ≡ posed_bytes (posed_of realm.served request) (closes request)
+    (outcome_of realm world moment request).answer.reply contents
 unfolding written
 written-served realm world moment cut request contents served = cond-false cut.failed _ _ served
 
@@ -52,7 +55,8 @@ unfolding left_by
 left_by-served realm world moment cut request served = cond-false cut.failed _ _ served
 
 -- where it did
-written-failed : (realm : Realm) (world : World) (moment : ℕ) (cut : Cut) (request : Request) (contents : List (List ℕ)) → cut.failed ≡ true
+written-failed : (realm : Realm) (world : World) (moment : ℕ) (cut : Cut) (request : Request)
+    (contents : List (List ℕ)) → cut.failed ≡ true
     → written realm world moment cut request contents ≡ failed_reply (is_head request) (closes request)
 unfolding written
 written-failed realm world moment cut request contents failed = cond-true cut.failed _ _ failed
@@ -66,16 +70,20 @@ left_by-failed : (realm : Realm) (world : World) (moment : ℕ) (cut : Cut) (req
 unfolding left_by
 left_by-failed realm world moment cut request failed = cond-true cut.failed _ _ failed
 
-AnswersAlone-answered : (before after : DeskState) (moment : ℕ) (request : Request) (contents : List (List ℕ)) (bytes : List ℕ) (places : List Place) (cut : Cut)
+AnswersAlone-answered : (before after : DeskState) (moment : ℕ) (request : Request) (contents : List (List ℕ))
+    (bytes : List ℕ) (places : List Place) (cut : Cut)
     → IsStill before → IsAnswered before after moment request contents bytes places cut
     → AnswersAlone (still_of before) (still_of after) moment request contents bytes places cut
 AnswersAlone-answered before after moment request contents bytes places cut still a =
     let desk : StillState = still_of before in
     let script = script_of before.realm moment request in
     let posed = posed_of before.realm.served request in
-    let runs : Runs desk (still_of after) script a.answer places = (Ran-runs before after script a.answer places still a.ran).runs in
-    let counted : count_changed places ≡ (run_on desk script).entries = ap count_changed runs.placed ∙ count_changed-run desk.realm desk.world script in
-    let digest : cut.sealed ≡ (run_on desk script).answer.sealed = a.sealed_is ∙ ap (λ (d : Decided). d.sealed) runs.answered in
+    let runs : Runs desk (still_of after) script a.answer places =
+    (Ran-runs before after script a.answer places still a.ran).runs in
+    let counted : count_changed places ≡ (run_on desk script).entries =
+    ap count_changed runs.placed ∙ count_changed-run desk.realm desk.world script in
+    let digest : cut.sealed ≡ (run_on desk script).answer.sealed =
+    a.sealed_is ∙ ap (λ (d : Decided). d.sealed) runs.answered in
     record {
       carries = a.carries ∙ ap (λ (d : Decided). named_by d.reply) runs.answered
           ∙ sym (named_to-served desk.realm desk.world moment cut request a.served);
@@ -84,7 +92,12 @@ AnswersAlone-answered before after moment request contents bytes places cut stil
           ∙ sym (written-served desk.realm desk.world moment cut request contents a.served);
       realm_stays = runs.realm_stays;
       leaves = runs.left ∙ sym (left_by-served desk.realm desk.world moment cut request a.served);
-      counts = record { at_most = omega (arith, a.entries, counted); all = λ _. a.entries ∙ counted; sealed = λ _. digest; no_other = inr digest };
+      counts = record {
+        at_most = omega (arith, a.entries, counted);
+        all = λ _. a.entries ∙ counted;
+        sealed = λ _. digest;
+        no_other = inr digest;
+      };
       placed = record {
         all = λ _. runs.placed;
         first = ([], sym runs.placed ∙ sym (append-nil places));
@@ -92,7 +105,8 @@ AnswersAlone-answered before after moment request contents bytes places cut stil
       };
     }
 
-AnswersAlone-failed : (before after : DeskState) (moment : ℕ) (request : Request) (contents : List (List ℕ)) (bytes : List ℕ) (places : List Place) (cut : Cut)
+AnswersAlone-failed : (before after : DeskState) (moment : ℕ) (request : Request) (contents : List (List ℕ))
+    (bytes : List ℕ) (places : List Place) (cut : Cut)
     → IsStill before → IsFailed before after moment request contents bytes places cut
     → AnswersAlone (still_of before) (still_of after) moment request contents bytes places cut
 AnswersAlone-failed before after moment request contents bytes places cut still f =
@@ -100,30 +114,45 @@ AnswersAlone-failed before after moment request contents bytes places cut still 
     let script = script_of before.realm moment request in
     let turns : List Place = places_of f.stopped.turns in
     let runs : RunsTo desk (still_of after) script turns = Stopped-runs_to before after script still f.stopped in
-    let within : count_changed turns ≤ (run_on desk script).entries = first_places-le desk script turns runs.rest runs.placed in
+    let within : count_changed turns ≤ (run_on desk script).entries =
+    first_places-le desk script turns runs.rest runs.placed in
     record {
-      carries = ap (map content_digest) f.carries_none ∙ sym (named_to-failed desk.realm desk.world moment cut request f.failed);
+      carries = ap (map content_digest) f.carries_none
+          ∙ sym (named_to-failed desk.realm desk.world moment cut request f.failed);
       bytes_are = f.bytes_are ∙ sym (written-failed desk.realm desk.world moment cut request contents f.failed);
       realm_stays = runs.realm_stays;
       leaves = runs.left ∙ ap (λ n. run_to n desk.realm desk.world script) (sym f.entries)
           ∙ sym (left_by-failed desk.realm desk.world moment cut request f.failed);
-      counts = record { at_most = omega (arith, f.entries, within); all = λ e. absurd (not_failed cut.failed f.failed e); sealed = λ e. absurd (not_failed cut.failed f.failed e); no_other = inl f.none_sealed };
+      counts = record {
+        at_most = omega (arith, f.entries, within);
+        all = λ e. absurd (not_failed cut.failed f.failed e);
+        sealed = λ e. absurd (not_failed cut.failed f.failed e);
+        no_other = inl f.none_sealed;
+      };
       placed = record {
         all = λ e. absurd (not_failed cut.failed f.failed e);
-        first = (f.rest ++ runs.rest, runs.placed ∙ ap (λ ps. ps ++ runs.rest) f.parts ∙ append_assoc places f.rest runs.rest);
+        first = (
+          f.rest ++ runs.rest,
+          runs.placed ∙ ap (λ ps. ps ++ runs.rest) f.parts
+              ∙ append_assoc places f.rest runs.rest,
+        );
         changed = omega (arith, f.entries, ap count_changed f.parts, count_changed-append places f.rest);
       };
     }
 
 -- the answers of a desk whose caller is alone are those of runs
-Answers-alone : (before after : DeskState) (moment : ℕ) (request : Request) (contents : List (List ℕ)) (bytes : List ℕ) (places : List Place) (cut : Cut)
+Answers-alone : (before after : DeskState) (moment : ℕ) (request : Request) (contents : List (List ℕ))
+    (bytes : List ℕ) (places : List Place) (cut : Cut)
     → IsStill before → Answers before after moment request contents bytes places cut
     → AnswersAlone (still_of before) (still_of after) moment request contents bytes places cut
-Answers-alone before after moment request contents bytes places cut still (inl a) = AnswersAlone-answered before after moment request contents bytes places cut still a
-Answers-alone before after moment request contents bytes places cut still (inr f) = AnswersAlone-failed before after moment request contents bytes places cut still f
+Answers-alone before after moment request contents bytes places cut still (inl a) =
+    AnswersAlone-answered before after moment request contents bytes places cut still a
+Answers-alone before after moment request contents bytes places cut still (inr f) =
+    AnswersAlone-failed before after moment request contents bytes places cut still f
 
 -- a still desk stays still
-Answers-still : (before after : DeskState) (moment : ℕ) (request : Request) (contents : List (List ℕ)) (bytes : List ℕ) (places : List Place) (cut : Cut)
+Answers-still : (before after : DeskState) (moment : ℕ) (request : Request) (contents : List (List ℕ))
+    (bytes : List ℕ) (places : List Place) (cut : Cut)
     → IsStill before → Answers before after moment request contents bytes places cut → IsStill after
 Answers-still before after moment request contents bytes places cut still (inl a) =
     (Ran-runs before after (script_of before.realm moment request) a.answer places still a.ran).still
@@ -141,7 +170,8 @@ record StandsStill (s : StandingOf DeskState) : Type 0 where
   realm_is : s.realm ≡ s.world.realm
   still : IsStill s.world
 
-IsServed-over : (s t : StandingOf DeskState) (e : Exchange) → StandsStill s → IsServedOver s e t → IsServed (still_standing s) e (still_standing t)
+IsServed-over : (s t : StandingOf DeskState) (e : Exchange) → StandsStill s → IsServedOver s e t
+    → IsServed (still_standing s) e (still_standing t)
 IsServed-over s t e stands v =
     let desk : StillState = still_of s.world in
     let a : AnswersAlone desk (still_of t.world) e.moment e.request e.contents e.bytes e.places e.cut =
@@ -153,9 +183,12 @@ IsServed-over s t e stands v =
       timed = v.timed;
       counts = subst (λ (r : Realm). Counts r desk.world e.moment e.request e.cut) realm a.counts;
       placed = subst (λ (r : Realm). IsPlaced r desk.world e.moment e.cut e.request e.places) realm a.placed;
-      carries = subst (λ (r : Realm). map content_digest e.contents ≡ named_to r desk.world e.moment e.cut e.request) realm a.carries;
-      bytes = subst (λ (r : Realm). e.bytes ≡ written r desk.world e.moment e.cut e.request e.contents) realm a.bytes_are;
-      leaves = subst (λ (r : Realm). (still_of t.world).world ≡ left_by r desk.world e.moment e.cut e.request) realm a.leaves;
+      carries = subst (λ (r : Realm). map content_digest e.contents
+          ≡ named_to r desk.world e.moment e.cut e.request) realm a.carries;
+      bytes = subst (λ (r : Realm). e.bytes
+          ≡ written r desk.world e.moment e.cut e.request e.contents) realm a.bytes_are;
+      leaves = subst (λ (r : Realm). (still_of t.world).world
+          ≡ left_by r desk.world e.moment e.cut e.request) realm a.leaves;
     }
 
 StandsStill-served : (s t : StandingOf DeskState) (e : Exchange) → StandsStill s → IsServedOver s e t → StandsStill t
@@ -167,7 +200,8 @@ StandsStill-served s t e stands v =
       still = Answers-still s.world t.world e.moment e.request e.contents e.bytes e.places e.cut stands.still v.answers;
     }
 
-Chain-still : (first last : StandingOf DeskState) (es : List Exchange) → StandsStill first → Chain IsServedOver first es last
+Chain-still : (first last : StandingOf DeskState) (es : List Exchange) → StandsStill first
+    → Chain IsServedOver first es last
     → Chain IsServed (still_standing first) es (still_standing last)
 Chain-still first last [] stands chain = ap still_standing chain
 Chain-still first last (e ∷ es) stands chain = (
@@ -187,15 +221,20 @@ pub record IsSetStill (set : SettingOf DeskState) : Type 0 where
   pub realm_is : set.realm ≡ set.first.realm
   pub still : IsStill set.first
 
-Serviced-still : (set : SettingOf DeskState) (before after : Outside) (es : List Exchange) (account : Account) (last : DeskState) → IsSetStill set
-    → ServicedBy IsServedOver set before after es account last → Serviced (still_setting set) before after es account (still_of last).world
+Serviced-still : (set : SettingOf DeskState) (before after : Outside) (es : List Exchange) (account : Account)
+    (last : DeskState) → IsSetStill set
+    → ServicedBy IsServedOver set before after es account last
+    → Serviced (still_setting set) before after es account (still_of last).world
 Serviced-still set before after es account last is s = record {
   says = s.says;
-  served = Chain-still (stands set set.first before.told) (stands set last after.told) es (record { realm_is = is.realm_is; still = is.still }) s.served;
+  served = Chain-still (stands set set.first before.told) (stands set last after.told) es
+      (record { realm_is = is.realm_is; still = is.still }) s.served;
 }
 
-Answered-still : (set : SettingOf DeskState) (before after : Outside) (account : Account) (last : DeskState) → IsSetStill set
-    → AnsweredBy IsServedOver set before after account last → Answered (still_setting set) before after account (still_of last).world
+Answered-still : (set : SettingOf DeskState) (before after : Outside) (account : Account) (last : DeskState)
+    → IsSetStill set
+    → AnsweredBy IsServedOver set before after account last
+    → Answered (still_setting set) before after account (still_of last).world
 Answered-still set before after account last is s = record {
   read = s.read;
   exchanges = s.exchanges;
@@ -210,8 +249,10 @@ Answered-still set before after account last is s = record {
   sent = s.sent;
 }
 
-Completed-still : (set : SettingOf DeskState) (before after : Outside) (account : Account) (last : DeskState) (end : End) → IsSetStill set
-    → CompletedBy IsServedOver set before after account last end → Completed (still_setting set) before after account (still_of last).world end
+Completed-still : (set : SettingOf DeskState) (before after : Outside) (account : Account) (last : DeskState)
+    (end : End) → IsSetStill set
+    → CompletedBy IsServedOver set before after account last end
+    → Completed (still_setting set) before after account (still_of last).world end
 Completed-still set before after account last end is s = record {
   read = s.read;
   over = s.over;
@@ -227,8 +268,10 @@ Completed-still set before after account last end is s = record {
   unspent = s.unspent;
 }
 
-CutOff-still : (set : SettingOf DeskState) (before after : Outside) (account : Account) (last : DeskState) → IsSetStill set
-    → CutOffBy IsServedOver set before after account last → CutOff (still_setting set) before after account (still_of last).world
+CutOff-still : (set : SettingOf DeskState) (before after : Outside) (account : Account) (last : DeskState)
+    → IsSetStill set
+    → CutOffBy IsServedOver set before after account last
+    → CutOff (still_setting set) before after account (still_of last).world
 CutOff-still set before after account last is s = record {
   read = s.read;
   exchanges = s.exchanges;
@@ -248,14 +291,23 @@ CutOff-still set before after account last is s = record {
 }
 
 -- however it ended
-pub Serves-still : (set : SettingOf DeskState) (before after : Outside) (account : Account) (last : DeskState) (end : End) → IsSetStill set
-    → ServesOver set before after account last end → Serves (still_setting set) before after account (still_of last).world end
+pub Serves-still : (set : SettingOf DeskState) (before after : Outside) (account : Account) (last : DeskState)
+    (end : End) → IsSetStill set
+    → ServesOver set before after account last end
+    → Serves (still_setting set) before after account (still_of last).world end
 Serves-still set before after account last ends.Usage is s = s
 Serves-still set before after account last ends.Mem is s = Answered-still set before after account last is s
-Serves-still set before after account last ends.ReadFault is s = (s.0, Completed-still set before after account last ends.ReadFault is s.1)
-Serves-still set before after account last ends.WriteFault is s = (s.0, CutOff-still set before after account last is s.1)
-Serves-still set before after account last ends.Whole is s = Completed-still set before after account last ends.Whole is s
-Serves-still set before after account last (ends.Truncated at) is s = Completed-still set before after account last (ends.Truncated at) is s
-Serves-still set before after account last (ends.Bad at) is s = Completed-still set before after account last (ends.Bad at) is s
-Serves-still set before after account last (ends.TooLong at limit) is s = Completed-still set before after account last (ends.TooLong at limit) is s
-Serves-still set before after account last ends.Spent is s = Completed-still set before after account last ends.Spent is s
+Serves-still set before after account last ends.ReadFault is s =
+    (s.0, Completed-still set before after account last ends.ReadFault is s.1)
+Serves-still set before after account last ends.WriteFault is s =
+    (s.0, CutOff-still set before after account last is s.1)
+Serves-still set before after account last ends.Whole is s =
+    Completed-still set before after account last ends.Whole is s
+Serves-still set before after account last (ends.Truncated at) is s =
+    Completed-still set before after account last (ends.Truncated at) is s
+Serves-still set before after account last (ends.Bad at) is s =
+    Completed-still set before after account last (ends.Bad at) is s
+Serves-still set before after account last (ends.TooLong at limit) is s =
+    Completed-still set before after account last (ends.TooLong at limit) is s
+Serves-still set before after account last ends.Spent is s =
+    Completed-still set before after account last ends.Spent is s

@@ -35,7 +35,8 @@ cut_of entries failed sealed = record { entries = entries; failed = failed; seal
 
 -- all turns of the request were made: the reply is that of their answer with its content, and the places and the cut are
 -- theirs
-pub record IsAnswered (before after : DeskState) (moment : ℕ) (request : Request) (contents : List (List ℕ)) (bytes : List ℕ) (places : List Place) (cut : Cut) : Type 0 where
+pub record IsAnswered (before after : DeskState) (moment : ℕ) (request : Request) (contents : List (List ℕ))
+    (bytes : List ℕ) (places : List Place) (cut : Cut) : Type 0 where
   pub answer : Decided
   pub ran : Ran before after (script_of before.realm moment request) answer places
   pub carries : AreContents answer.reply contents
@@ -46,7 +47,8 @@ pub record IsAnswered (before after : DeskState) (moment : ℕ) (request : Reque
 
 -- the first turns of the request were made, and there was no memory for more, or for the reply: the reply is the fixed one,
 -- and the places are the first of theirs
-pub record IsFailed (before after : DeskState) (moment : ℕ) (request : Request) (contents : List (List ℕ)) (bytes : List ℕ) (places : List Place) (cut : Cut) : Type 0 where
+pub record IsFailed (before after : DeskState) (moment : ℕ) (request : Request) (contents : List (List ℕ))
+    (bytes : List ℕ) (places : List Place) (cut : Cut) : Type 0 where
   pub stopped : Stopped before after (script_of before.realm moment request)
   pub rest : List Place
   pub parts : places_of stopped.turns ≡ places ++ rest
@@ -112,7 +114,8 @@ pub record IsFresh (session : Session) : Type 0 where
 
 -- all requests that were read were answered, and the replies were sent: the reader stands there, and this was said of them
 -- and left
-pub record SoFar (set : SettingOf DeskState) (before after : Outside) (point : Point) (account : Account) (last : DeskState) : Type 0 where
+pub record SoFar (set : SettingOf DeskState) (before after : Outside) (point : Point) (account : Account)
+    (last : DeskState) : Type 0 where
   pub read : List ℕ
   pub exchanges : List Exchange
   pub consumed : Consumes before.left after.left read
@@ -124,12 +127,14 @@ pub record SoFar (set : SettingOf DeskState) (before after : Outside) (point : P
   pub writes_later : before.write_faults ≤ after.write_faults
 
 -- the same of a session over a desk
-pub record HasCome (set : SettingOf DeskState) (before after : Outside) (session : Session) (seen : DeskState) : Type 0 where
+pub record HasCome (set : SettingOf DeskState) (before after : Outside) (session : Session)
+    (seen : DeskState) : Type 0 where
   pub realm_stays : seen.realm ≡ set.realm
   pub so_far : SoFar set before after session.reader (account_in session) seen
 
 -- the session ended like that
-pub record HasEnded (set : SettingOf DeskState) (before after : Outside) (session : Session) (seen : DeskState) (end : End) : Type 0 where
+pub record HasEnded (set : SettingOf DeskState) (before after : Outside) (session : Session) (seen : DeskState)
+    (end : End) : Type 0 where
   pub realm_stays : seen.realm ≡ set.realm
   pub serves : ServesOver set before after (account_in session) seen end
 
@@ -143,7 +148,8 @@ abbrev pub standing_of : Option ℕ → Outside → DeskState → StandingOf Des
 standing_of fixed outside seen = record { realm = seen.realm; world = seen; fixed = fixed; told = outside.told }
 
 -- a request was answered, its exchange stands in the account behind the others, and the reply was sent, or a part of it
-pub record Answered (fixed : Option ℕ) (request : Request) (before : Outside) (old : Session) (seen : DeskState) (after : Outside) (now : Session) (later : DeskState) (sent : Sent) : Type 0 where
+pub record Answered (fixed : Option ℕ) (request : Request) (before : Outside) (old : Session) (seen : DeskState)
+    (after : Outside) (now : Session) (later : DeskState) (sent : Sent) : Type 0 where
   pub exchange : Exchange
   pub request_is : exchange.request ≡ request
   pub served : IsServedOver (standing_of fixed before seen) exchange (standing_of fixed after later)
@@ -153,7 +159,8 @@ pub record Answered (fixed : Option ℕ) (request : Request) (before : Outside) 
   pub sends : Sends before.held after.held exchange.bytes sent
 
 -- the reply was sent, and the session ends where the request closes it; or a part of the reply was
-abbrev pub ServesRequest : Option ℕ → Request → Outside → Session → DeskState → Outside → Session → DeskState → Option End → Type 0
+abbrev pub ServesRequest : Option ℕ → Request → Outside → Session → DeskState → Outside → Session → DeskState
+    → Option End → Type 0
 ServesRequest fixed request before old seen after now later None =
     Answered fixed request before old seen after now later Done × (closes request ≡ false)
 ServesRequest fixed request before old seen after now later (Some ends.Whole) =
@@ -164,4 +171,5 @@ ServesRequest fixed request before old seen after now later (Some _) = ⊥
 
 -- the reply to bytes that are no request was sent, and the session ends like that, or a part of the reply was
 abbrev pub SendsLast : Option (List ℕ) → Option (List ℕ) → List ℕ → End → End → Type 0
-SendsLast before after reply last end = ((end ≡ last) × Appends before after reply) ⊎ ((end ≡ ends.WriteFault) × Sends before after reply WriteFault)
+SendsLast before after reply last end = ((end ≡ last) × Appends before after reply)
+    ⊎ ((end ≡ ends.WriteFault) × Sends before after reply WriteFault)

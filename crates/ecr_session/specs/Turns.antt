@@ -20,14 +20,16 @@ use Rattle.ecr_http.specs.Replies.{reply_bytes}
 use Rattle.ecr_http.specs.declared.reply.HttpReply.{HttpReply}
 
 -- all turns of the script were made and came to that answer, and their places stand behind those before
-pub record RanWith {A : Type 0} (before after : DeskState) (script : Script A) (answer : A) (old now : List Place) : Type 0 where
+pub record RanWith {A : Type 0} (before after : DeskState) (script : Script A) (answer : A)
+    (old now : List Place) : Type 0 where
   pub places : List Place
   pub added : now ≡ old ++ places
   pub ran : Ran before after script answer places
 
 -- some turns of the script were made, the first ones, and the places of some of these, the first ones, stand behind those
 -- before
-pub record StoppedWith {A : Type 0} (before after : DeskState) (script : Script A) (old now : List Place) : Type 0 where
+pub record StoppedWith {A : Type 0} (before after : DeskState) (script : Script A)
+    (old now : List Place) : Type 0 where
   pub places : List Place
   pub rest : List Place
   pub added : now ≡ old ++ places
@@ -36,7 +38,8 @@ pub record StoppedWith {A : Type 0} (before after : DeskState) (script : Script 
 
 -- the turns that were posed came to these bytes, with the content that their reply names, and to this digest of a completed
 -- upload
-pub record IsReplied (before after : DeskState) (posed : Posed) (moment : ℕ) (close : Bool) (reply : HttpReply) (sealed : Option Digest) (old now : List Place) : Type 0 where
+pub record IsReplied (before after : DeskState) (posed : Posed) (moment : ℕ) (close : Bool) (reply : HttpReply)
+    (sealed : Option Digest) (old now : List Place) : Type 0 where
   pub answer : Decided
   pub ran : RanWith before after (posed_script posed moment) answer old now
   pub contents : List (List ℕ)
@@ -45,7 +48,8 @@ pub record IsReplied (before after : DeskState) (posed : Posed) (moment : ℕ) (
   pub sealed_is : sealed ≡ answer.sealed
 
 -- after these turns the rest of the whole script is left: it ends as that does
-pub record LeadsTo {A : Type 0} (before now : DeskState) (whole rest : Script A) (old places : List Place) : Type 0 where
+pub record LeadsTo {A : Type 0} (before now : DeskState) (whole rest : Script A)
+    (old places : List Place) : Type 0 where
   pub ran : (later : DeskState) (answer : A) (last : List Place) → RanWith now later rest answer places last
       → RanWith before later whole answer old last
   pub stopped : (later : DeskState) (last : List Place) → StoppedWith now later rest places last
@@ -72,7 +76,8 @@ refusal_in (Refused refusal) = Some refusal
 refusal_in _ = None
 
 -- one repository was described: its row stands behind those before, or it was refused like that
-pub record IsDescribed (before after : DeskState) (s : SiteId) (name : Name) (moment : ℕ) (rows_before rows_after : List Row) (refusal : Option Refusal) (old now : List Place) : Type 0 where
+pub record IsDescribed (before after : DeskState) (s : SiteId) (name : Name) (moment : ℕ)
+    (rows_before rows_after : List Row) (refusal : Option Refusal) (old now : List Place) : Type 0 where
   pub decided : Decided
   pub ran : RanWith before after (one_script s moment name) decided old now
   pub rows : rows_after ≡ rows_before ++ rows_in decided.reply

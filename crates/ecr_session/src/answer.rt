@@ -45,7 +45,9 @@ pub(crate) fn answer_request<D: AnyDesk>(
     request: &Request,
 ) -> Answer
     requires { 0 < length (D.seen desk.old).realm.served }
-    ensures { (contents : List (List ℕ)) × Answers (D.seen desk.old) (D.seen desk.new) moment request.now contents (sent_bytes (is_head request.now) (closes request.now) result.reply) result.places.items result.cut }
+    ensures { (contents : List (List ℕ))
+        × Answers (D.seen desk.old) (D.seen desk.new) moment request.now contents
+        (sent_bytes (is_head request.now) (closes request.now) result.reply) result.places.items result.cut }
 {
     let before = desk.made();
     let mut places = Vec::new(alloc);
@@ -104,8 +106,14 @@ fn try_answer<D: AnyDesk>(
     places: &mut Vec<Place>,
 ) -> Result<Replied, Mem>
     requires { 0 < length (D.seen desk.old).realm.served }
-    ensures replied { IfOk result (λ r. IsReplied (D.seen desk.old) (D.seen desk.new) (posed_of (D.seen desk.old).realm.served request.now) moment (closes request.now) r.reply r.sealed places.old.items places.new.items) }
-    ensures stopped { OnErr result (StoppedWith (D.seen desk.old) (D.seen desk.new) (posed_script (posed_of (D.seen desk.old).realm.served request.now) moment) places.old.items places.new.items) }
+    ensures replied { IfOk result
+        (λ r. IsReplied (D.seen desk.old) (D.seen desk.new)
+        (posed_of (D.seen desk.old).realm.served request.now) moment
+        (closes request.now) r.reply r.sealed places.old.items places.new.items) }
+    ensures stopped { OnErr result
+        (StoppedWith (D.seen desk.old) (D.seen desk.new)
+        (posed_script (posed_of
+        (D.seen desk.old).realm.served request.now) moment) places.old.items places.new.items) }
 {
     if !is_json_call(request) {
         let reply = write_not_found(alloc, closes(request))?;
@@ -139,7 +147,8 @@ fn read_request(
     request: &Request,
 ) -> Result<Asked, ApiRefusal>
     requires { 0 < length served.now }
-    ensures exact { Reads result (reading (target_of request.now) request.now.body (base_of served.now request.now) served.now) }
+    ensures exact { Reads result
+        (reading (target_of request.now) request.now.body (base_of served.now request.now) served.now) }
     ensures fits { IfOk result LoadFits }
 {
     let host = request.fields.first_value(b"host");
@@ -173,8 +182,12 @@ fn answer_asked<D: AnyDesk>(
 ) -> Result<Replied, Mem>
     requires askable { IsAskable (D.seen desk.old).realm.served (meaning asked.now) }
     requires fits { LoadFits asked.now }
-    ensures replied { IfOk result (λ r. IsReplied (D.seen desk.old) (D.seen desk.new) (api (asks (meaning asked.now))) moment close r.reply r.sealed places.old.items places.new.items) }
-    ensures stopped { OnErr result (StoppedWith (D.seen desk.old) (D.seen desk.new) (posed_script (api (asks (meaning asked.now))) moment) places.old.items places.new.items) }
+    ensures replied { IfOk result
+        (λ r. IsReplied (D.seen desk.old) (D.seen desk.new)
+        (api (asks (meaning asked.now))) moment close r.reply r.sealed places.old.items places.new.items) }
+    ensures stopped { OnErr result
+        (StoppedWith (D.seen desk.old) (D.seen desk.new)
+        (posed_script (api (asks (meaning asked.now))) moment) places.old.items places.new.items) }
 {
     let decided = run_asked(alloc, desk, asked, moment, places)?;
     let reply = write_reply(
@@ -200,9 +213,13 @@ fn run_asked<D: AnyDesk>(
 ) -> Result<Decided, Mem>
     requires askable { IsAskable (D.seen desk.old).realm.served (meaning asked.now) }
     requires fits { LoadFits asked.now }
-    ensures ran { IfOk result (λ r. RanWith (D.seen desk.old) (D.seen desk.new) (asked_script (meaning asked.now) moment) (record { reply = r.reply; sealed = r.sealed }) places.old.items places.new.items) }
+    ensures ran { IfOk result
+        (λ r. RanWith (D.seen desk.old) (D.seen desk.new) (asked_script (meaning asked.now) moment)
+        (record { reply = r.reply; sealed = r.sealed }) places.old.items places.new.items) }
     ensures contents { IfOk result (λ r. AreContents r.reply r.blobs.items) }
-    ensures stopped { OnErr result (StoppedWith (D.seen desk.old) (D.seen desk.new) (asked_script (meaning asked.now) moment) places.old.items places.new.items) }
+    ensures stopped { OnErr result
+        (StoppedWith (D.seen desk.old) (D.seen desk.new)
+        (asked_script (meaning asked.now) moment) places.old.items places.new.items) }
 {
     match asked {
         Asked::Cell { key, call, load } => {

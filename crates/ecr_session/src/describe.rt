@@ -25,8 +25,12 @@ pub(crate) fn describe<D: AnyDesk>(
 ) -> Result<Reply, Mem>
     requires served { Contains (D.seen desk.old).realm.served site.now }
     requires from { page.from < 2 ^ 63 }
-    ensures ran { IfOk result (λ r. RanWith (D.seen desk.old) (D.seen desk.new) (describe_script site.now names.now page moment) r places.old.items places.new.items) }
-    ensures stopped { OnErr result (StoppedWith (D.seen desk.old) (D.seen desk.new) (describe_script site.now names.now page moment) places.old.items places.new.items) }
+    ensures ran { IfOk result
+        (λ r. RanWith (D.seen desk.old) (D.seen desk.new)
+        (describe_script site.now names.now page moment) r places.old.items places.new.items) }
+    ensures stopped { OnErr result
+        (StoppedWith (D.seen desk.old) (D.seen desk.new)
+        (describe_script site.now names.now page moment) places.old.items places.new.items) }
 {
     match names {
         Some(names) => describe_named(alloc, desk, site, names.as_slice(), moment, places),
@@ -44,8 +48,12 @@ fn describe_named<D: AnyDesk>(
     places: &mut Vec<Place>,
 ) -> Result<Reply, Mem>
     requires served { Contains (D.seen desk.old).realm.served site.now }
-    ensures ran { IfOk result (λ r. RanWith (D.seen desk.old) (D.seen desk.new) (named_script site.now moment [] names.now) r places.old.items places.new.items) }
-    ensures stopped { OnErr result (StoppedWith (D.seen desk.old) (D.seen desk.new) (named_script site.now moment [] names.now) places.old.items places.new.items) }
+    ensures ran { IfOk result
+        (λ r. RanWith (D.seen desk.old) (D.seen desk.new)
+        (named_script site.now moment [] names.now) r places.old.items places.new.items) }
+    ensures stopped { OnErr result
+        (StoppedWith (D.seen desk.old) (D.seen desk.new)
+        (named_script site.now moment [] names.now) places.old.items places.new.items) }
 {
     let mut rows = Vec::new(alloc);
     for name in names {
@@ -71,8 +79,12 @@ fn describe_page<D: AnyDesk>(
 ) -> Result<Reply, Mem>
     requires served { Contains (D.seen desk.old).realm.served site.now }
     requires from { page.from < 2 ^ 63 }
-    ensures ran { IfOk result (λ r. RanWith (D.seen desk.old) (D.seen desk.new) (describe_script site.now None page moment) r places.old.items places.new.items) }
-    ensures stopped { OnErr result (StoppedWith (D.seen desk.old) (D.seen desk.new) (describe_script site.now None page moment) places.old.items places.new.items) }
+    ensures ran { IfOk result
+        (λ r. RanWith (D.seen desk.old) (D.seen desk.new)
+        (describe_script site.now None page moment) r places.old.items places.new.items) }
+    ensures stopped { OnErr result
+        (StoppedWith (D.seen desk.old) (D.seen desk.new)
+        (describe_script site.now None page moment) places.old.items places.new.items) }
 {
     match site_at(alloc, desk, site, SiteCall::Names { page }, places)? {
         SiteReply::Names { names, more } => {
@@ -95,8 +107,12 @@ fn describe_listed<D: AnyDesk>(
     places: &mut Vec<Place>,
 ) -> Result<Reply, Mem>
     requires served { Contains (D.seen desk.old).realm.served site.now }
-    ensures ran { IfOk result (λ r. RanWith (D.seen desk.old) (D.seen desk.new) (listed_script site.now moment next [] names.now) r places.old.items places.new.items) }
-    ensures stopped { OnErr result (StoppedWith (D.seen desk.old) (D.seen desk.new) (listed_script site.now moment next [] names.now) places.old.items places.new.items) }
+    ensures ran { IfOk result
+        (λ r. RanWith (D.seen desk.old) (D.seen desk.new)
+        (listed_script site.now moment next [] names.now) r places.old.items places.new.items) }
+    ensures stopped { OnErr result
+        (StoppedWith (D.seen desk.old) (D.seen desk.new)
+        (listed_script site.now moment next [] names.now) places.old.items places.new.items) }
 {
     let mut rows = Vec::new(alloc);
     for name in names {
@@ -119,8 +135,12 @@ fn describe_next<D: AnyDesk>(
     places: &mut Vec<Place>,
 ) -> Result<Option<Refusal>, Mem>
     requires served { Contains (D.seen desk.old).realm.served site.now }
-    ensures described { IfOk result (λ o. IsDescribed (D.seen desk.old) (D.seen desk.new) site.now name.now moment rows.old.items rows.new.items o places.old.items places.new.items) }
-    ensures stopped { OnErr result (StoppedWith (D.seen desk.old) (D.seen desk.new) (one_script site.now moment name.now) places.old.items places.new.items) }
+    ensures described { IfOk result
+        (λ o. IsDescribed (D.seen desk.old)
+        (D.seen desk.new) site.now name.now moment rows.old.items rows.new.items o places.old.items places.new.items) }
+    ensures stopped { OnErr result
+        (StoppedWith (D.seen desk.old) (D.seen desk.new)
+        (one_script site.now moment name.now) places.old.items places.new.items) }
 {
     let key = key_at(site, name)?;
     let load = Load::Nothing;

@@ -24,7 +24,8 @@ pub(crate) fn site_for<'a>(sites: &'a [SiteId], host: Option<&[u8]>) -> &'a Site
 
 /// The site that the value of Host names, where there is one.
 fn named_by<'a>(sites: &'a [SiteId], host: Option<&[u8]>) -> Option<&'a SiteId>
-    ensures { option_copied result ≡ option_and_then (λ value. named_site sites.entry.now (without_port value)) (option_map (λ value. value.now) host.entry) }
+    ensures { option_copied result ≡ option_and_then (λ value. named_site sites.entry.now (without_port value))
+        (option_map (λ value. value.now) host.entry) }
 {
     named_site(sites, without_port(host?))
 }
@@ -89,7 +90,8 @@ fn is_region_and_end(text: &[u8], site: &SiteId) -> bool
 
 /// What stands after the front, or `None` where the text doesn't begin with it.
 fn after<'a>(text: &'a [u8], front: &[u8]) -> Option<&'a [u8]>
-    ensures { (end : List ℕ) → str_eq_ignore_ascii_case text.entry.now (front.now ++ end) ≡ option_map_or (λ rest. str_eq_ignore_ascii_case rest.now end) result false }
+    ensures { (end : List ℕ) → str_eq_ignore_ascii_case text.entry.now (front.now ++ end) ≡ option_map_or
+        (λ rest. str_eq_ignore_ascii_case rest.now end) result false }
 {
     if text.len() < front.len() {
         return None;

@@ -93,7 +93,8 @@ impl Session {
             → GoesOn set before
             (record { left = S.left source.new; held = K.held sink.new; told = C.told clock.new; read_faults = S.faults source.new; write_faults = K.faults sink.new })
             self.new (D.seen desk.new) result }
-        ensures counted { (D.seen desk.new).made + entries_in self.old.cuts.items ≡ (D.seen desk.old).made + entries_in self.new.cuts.items }
+        ensures counted { (D.seen desk.new).made + entries_in self.old.cuts.items ≡
+            (D.seen desk.old).made + entries_in self.new.cuts.items }
 
         // A turn adds a cut, and a list of cuts has an end.
         ensures nearer { IfNone result (2 ^ 64 - vec_len self.new.cuts < 2 ^ 64 - vec_len self.old.cuts) }
@@ -146,7 +147,8 @@ impl Session {
         ensures serves { (left : Option (List ℕ)) (faults : ℕ) → ServesRequest fixed request.now
             (record { left = left; held = K.held sink.old; told = C.told clock.old; read_faults = faults; write_faults = K.faults sink.old }) self.old (D.seen desk.old)
             (record { left = left; held = K.held sink.new; told = C.told clock.new; read_faults = faults; write_faults = K.faults sink.new }) self.new (D.seen desk.new) result }
-        ensures counted { (D.seen desk.new).made + entries_in self.old.cuts.items ≡ (D.seen desk.old).made + entries_in self.new.cuts.items }
+        ensures counted { (D.seen desk.new).made + entries_in self.old.cuts.items ≡
+            (D.seen desk.old).made + entries_in self.new.cuts.items }
         ensures longer { vec_len self.new.cuts ≡ vec_len self.old.cuts + 1 }
         ensures later { K.faults sink.old ≤ K.faults sink.new }
         ensures cause { result ≡ Some End.WriteFault → K.faults sink.old < K.faults sink.new }
@@ -170,7 +172,8 @@ impl Session {
 
     // Sends the reply to a request, or the fixed one where there was no memory for it.
     fn send<K: Sink>(&mut self, sink: &mut K, reply: &Option<HttpReply>, request: &Request) -> Sent
-        ensures sends { Sends (K.held sink.old) (K.held sink.new) (reply_bytes (is_head request.now) (closes request.now) reply.now) result }
+        ensures sends { Sends (K.held sink.old) (K.held sink.new)
+            (reply_bytes (is_head request.now) (closes request.now) reply.now) result }
         ensures kept { self.new ≡ self.old }
         ensures later { K.faults sink.old ≤ K.faults sink.new }
         ensures cause { result ≡ Sent.WriteFault → K.faults sink.old < K.faults sink.new }

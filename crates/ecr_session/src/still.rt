@@ -61,7 +61,8 @@ pub fn session_still<D: StillDesk, S: Source, K: Sink, C: Clock>(
     ensures realm_stays { (D.seen desk.new).realm ≡ (D.seen desk.old).realm }
 
     // Each place is above all tickets that stood in its cell before, and the tickets of one cell don't fall.
-    ensures fresh { AreFresh (still_of (D.seen desk.old)).world.journals (all_places (map (λ v. v.items) result.places.items)) }
+    ensures fresh { AreFresh (still_of (D.seen desk.old)).world.journals
+        (all_places (map (λ v. v.items) result.places.items)) }
     ensures counted { (D.seen desk.new).made ≡ (D.seen desk.old).made + entries_in result.cuts.items }
 {
     // That the desk's journals are sound comes with what it serves.
@@ -84,7 +85,11 @@ pub fn session_still<D: StillDesk, S: Source, K: Sink, C: Clock>(
 
 // What the session says at its end.
 fn ended(session: Session, end: End) -> SessionEnd<()>
-    ensures account { (record { moments = result.moments.items; places = map (λ v. v.items) result.places.items; cuts = result.cuts.items }) ≡ account_in session }
+    ensures account { (record {
+      moments = result.moments.items;
+      places = map (λ v. v.items) result.places.items;
+      cuts = result.cuts.items;
+    }) ≡ account_in session }
     ensures cuts { result.cuts.items ≡ session.cuts.items }
     ensures end { result.end ≡ end }
 {

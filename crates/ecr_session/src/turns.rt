@@ -31,9 +31,13 @@ pub(crate) fn call_at<D: AnyDesk>(
 ) -> Result<Decided, Mem>
     requires served { Contains (D.seen desk.old).realm.served key.now.site }
     requires fits { FitsCall call load }
-    ensures ran { IfOk result (λ r. RanWith (D.seen desk.old) (D.seen desk.new) (call_script key.now call (given load) moment) (record { reply = r.reply; sealed = r.sealed }) places.old.items places.new.items) }
+    ensures ran { IfOk result
+        (λ r. RanWith (D.seen desk.old) (D.seen desk.new) (call_script key.now call (given load) moment)
+        (record { reply = r.reply; sealed = r.sealed }) places.old.items places.new.items) }
     ensures contents { IfOk result (λ r. AreContents r.reply r.blobs.items) }
-    ensures stopped { OnErr result (StoppedWith (D.seen desk.old) (D.seen desk.new) (call_script key.now call (given load) moment) places.old.items places.new.items) }
+    ensures stopped { OnErr result
+        (StoppedWith (D.seen desk.old) (D.seen desk.new)
+        (call_script key.now call (given load) moment) places.old.items places.new.items) }
 {
     make_room(places)?;
     let answer = desk.call(alloc, key, call, load, moment)?;
@@ -54,8 +58,12 @@ pub(crate) fn site_at<D: AnyDesk>(
     places: &mut Vec<Place>,
 ) -> Result<SiteReply, Mem>
     requires served { Contains (D.seen desk.old).realm.served site.now }
-    ensures ran { IfOk result (λ r. RanWith (D.seen desk.old) (D.seen desk.new) (site_script site.now call) r places.old.items places.new.items) }
-    ensures stopped { OnErr result (StoppedWith (D.seen desk.old) (D.seen desk.new) (site_script site.now call) places.old.items places.new.items) }
+    ensures ran { IfOk result
+        (λ r. RanWith (D.seen desk.old) (D.seen desk.new)
+        (site_script site.now call) r places.old.items places.new.items) }
+    ensures stopped { OnErr result
+        (StoppedWith (D.seen desk.old) (D.seen desk.new)
+        (site_script site.now call) places.old.items places.new.items) }
 {
     places.reserve(1)?;
     let answer = desk.registry(alloc, site, call)?;

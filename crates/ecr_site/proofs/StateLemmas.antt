@@ -25,9 +25,11 @@ bytes_eq-swap a b =
     (Decides-like (bytes_eq b a) sym sym (bytes_eq-Decides b a))
 
 -- a set in order has the names that are equal to one of it
-pub list_any-name_order : (name : Name) (names : List Name) → list_any (is_at (name_order name)) names ≡ list_any (λ n. bytes_eq n.text name.text) names
+pub list_any-name_order : (name : Name) (names : List Name)
+    → list_any (is_at (name_order name)) names ≡ list_any (λ n. bytes_eq n.text name.text) names
 list_any-name_order name [] = refl
-list_any-name_order name (n ∷ ns) = λ i. (is_eq-slice_cmp name.text n.text ∙ bytes_eq-swap name.text n.text) i || list_any-name_order name ns i
+list_any-name_order name (n ∷ ns) =
+    λ i. (is_eq-slice_cmp name.text n.text ∙ bytes_eq-swap name.text n.text) i || list_any-name_order name ns i
 
 -- no name is registered at first
 pub IsKept-first : (frame : SiteFrame) → IsKept frame [] []
@@ -35,7 +37,8 @@ unfolding first_directory journals.replay journals.IsSoundFrom
 IsKept-first frame = record { sound = tt; same = refl }
 
 -- the names in order answer as the journal's do
-pub is_at-registered : (s : SiteJournal) (names : List Name) (name : Name) → IsKept (frame_of_journal s) s.journal names
+pub is_at-registered : (s : SiteJournal) (names : List Name) (name : Name)
+    → IsKept (frame_of_journal s) s.journal names
     → list_any (is_at (name_order name)) names ≡ is_registered name (directory_of s)
 is_at-registered s names name kept =
     list_any-name_order name names ∙ ap (λ ns. list_any (λ n. bytes_eq n.text name.text) ns) kept.same
@@ -51,29 +54,34 @@ pub was_not_there : (there added : Bool) → added ≡ not there → added ≡ t
 was_not_there false added p q = refl
 was_not_there true added p q = absurd (both_ways added p q)
 
-pub registration-known : (frame : SiteFrame) (d : Directory) (name : Name) → is_registered name d ≡ true → registration frame d name ≡ Known
+pub registration-known : (frame : SiteFrame) (d : Directory) (name : Name) → is_registered name d ≡ true
+    → registration frame d name ≡ Known
 unfolding registration
 registration-known frame d name known = cond-true (is_registered name d) _ _ known
 
-pub registration-new : (frame : SiteFrame) (d : Directory) (name : Name) → is_registered name d ≡ false → length d.names < frame.limits.names → registration frame d name ≡ New
+pub registration-new : (frame : SiteFrame) (d : Directory) (name : Name) → is_registered name d ≡ false
+    → length d.names < frame.limits.names → registration frame d name ≡ New
 unfolding registration
 registration-new frame d name unknown below =
     cond-false (is_registered name d) _ _ unknown
     ∙ cond-true (nat_lt (length d.names) frame.limits.names) _ _ (lt-ltb (length d.names) frame.limits.names below)
 
 -- where the limit is reached no line is entered
-pub after_register-beyond : (s : SiteJournal) (ticket caller : ℕ) (name : Name) → s.limits.names ≤ length (directory_of s).names → after_register s ticket caller name ≡ s
+pub after_register-beyond : (s : SiteJournal) (ticket caller : ℕ) (name : Name)
+    → s.limits.names ≤ length (directory_of s).names → after_register s ticket caller name ≡ s
 unfolding registration
 after_register-beyond s ticket caller name full =
     let d : Directory = directory_of s in
     let line : Line = line_of ticket caller name in
     let over : Registered = Full s.limits.names (length d.names) in
-    cond_both (is_registered name d) Known (cond (nat_lt (length d.names) s.limits.names) New over) (λ r. entered r s line ≡ s)
+    cond_both (is_registered name d) Known (cond (nat_lt (length d.names) s.limits.names) New over)
+    (λ r. entered r s line ≡ s)
     (λ known. refl)
     (λ unknown. ap (λ b. entered (cond b New over) s line) (le-ltb (length d.names) s.limits.names full))
 
 -- what the line of a new name makes of the directory
-after_line-line_of : (frame : SiteFrame) (d : Directory) (ticket caller : ℕ) (name : Name) → registration frame d name ≡ New → after_line frame d (line_of ticket caller name) ≡ Some (with_name name d)
+after_line-line_of : (frame : SiteFrame) (d : Directory) (ticket caller : ℕ) (name : Name)
+    → registration frame d name ≡ New → after_line frame d (line_of ticket caller name) ≡ Some (with_name name d)
 unfolding after_line
 after_line-line_of frame d ticket caller name new = ap (registered name d) new
 
@@ -84,11 +92,13 @@ pub IsKept-line_of : (frame : SiteFrame) (journal : List Line) (names : List Nam
 IsKept-line_of frame journal names ticket caller name kept later new =
     let d : Directory = replay frame journal in
     let line : Line = line_of ticket caller name in
-    let changes : after_line frame d line ≡ Some (with_name name d) = after_line-line_of frame d ticket caller name new in
+    let changes : after_line frame d line ≡ Some (with_name name d) =
+    after_line-line_of frame d ticket caller name new in
     let next : replay frame (journal ++ line ∷ []) ≡ with_name name d =
     replay_goes_on (after_line frame) first_directory journal line ∙ ap (λ o. unwrap_or o d) changes in
     record {
-      sound = a_sound_journal_grows (after_line frame) first_directory journal line (with_name name d) kept.sound later changes;
+      sound = a_sound_journal_grows (after_line frame) first_directory journal line
+          (with_name name d) kept.sound later changes;
       same = ap (λ ns. insert_key name_order ns name) kept.same ∙ sym (ap (λ e. e.names) next);
     }
 
@@ -100,5 +110,6 @@ past_from-push low [] line = refl
 past_from-push low (l ∷ ls) line = past_from-push (suc l.ticket) ls line
 
 -- so the next ticket is above all
-pub past-with_line : (s : SiteJournal) (ticket caller : ℕ) (name : Name) → past (with_line s (line_of ticket caller name)).journal ≤ ticket + 1
+pub past-with_line : (s : SiteJournal) (ticket caller : ℕ) (name : Name)
+    → past (with_line s (line_of ticket caller name)).journal ≤ ticket + 1
 past-with_line s ticket caller name = rw (past_from-push 0 s.journal (line_of ticket caller name)) (omega arith)

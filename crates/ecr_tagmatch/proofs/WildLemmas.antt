@@ -45,7 +45,8 @@ wild-agreed (p ∷ ps) [] = refl
 wild-agreed (p ∷ ps) (t ∷ ts) = grind (arith, wild-agreed ps ts)
 
 -- where they end before a byte that differs, the pattern doesn't match
-pub wild-refused : (p t : List ℕ) → agreed p t < length p → (slice_index p (agreed p t) == 42) ≡ false → wild p t ≡ false
+pub wild-refused : (p t : List ℕ) → agreed p t < length p → (slice_index p (agreed p t) == 42) ≡ false
+    → wild p t ≡ false
 wild-refused [] t h k = absurd (omega (arith, h))
 wild-refused (p ∷ ps) [] h k = grind (arith, k)
 wild-refused (p ∷ ps) (t ∷ ts) h k = grind (arith, h, k, wild-refused ps ts)
@@ -65,7 +66,8 @@ wild-byte p ps [] h m = grind (arith, h, m)
 wild-byte p ps (t ∷ ts) h m = grind (arith, h, m)
 
 -- what matches at a later place goes on from the bytes that agree here
-wild-later : (p t : List ℕ) (k : ℕ) → wild p (drop k t) ≡ true → wild (drop (agreed p t) p) (drop k (drop (agreed p t) t)) ≡ true
+wild-later : (p t : List ℕ) (k : ℕ) → wild p (drop k t) ≡ true
+    → wild (drop (agreed p t) p) (drop k (drop (agreed p t) t)) ≡ true
 wild-later [] t k m = m
 wild-later (p ∷ ps) [] k m = m
 wild-later (p ∷ ps) (t ∷ ts) k m = elim (split (p == 42)) [
@@ -99,15 +101,18 @@ star-here p (t ∷ ts) m = or_first (wild p (t ∷ ts)) (wild (42 ∷ p) ts) m
 
 -- ---- the steps
 
-parts-star : (p t : List ℕ) → agreed p t < length p → slice_index p (agreed p t) ≡ 42 → drop (agreed p t) p ≡ 42 ∷ drop (agreed p t + 1) p
+parts-star : (p t : List ℕ) → agreed p t < length p → slice_index p (agreed p t) ≡ 42
+    → drop (agreed p t) p ≡ 42 ∷ drop (agreed p t + 1) p
 parts-star p t h e = drop_more p (agreed p t) 0 h ∙ ap (λ c. c ∷ drop (agreed p t + 1) p) e
 
 -- at the next `*` of the pattern
-pub wild-star : (p t : List ℕ) → agreed p t < length p → slice_index p (agreed p t) ≡ 42 → wild p t ≡ wild (42 ∷ drop (agreed p t + 1) p) (drop (agreed p t) t)
+pub wild-star : (p t : List ℕ) → agreed p t < length p → slice_index p (agreed p t) ≡ 42
+    → wild p t ≡ wild (42 ∷ drop (agreed p t + 1) p) (drop (agreed p t) t)
 wild-star p t h e = wild-agreed p t ∙ ap (λ l. wild l (drop (agreed p t) t)) (parts-star p t h e)
 
 -- the place is never gone back to
-pub wild-next_star : (p t : List ℕ) → agreed p t < length p → slice_index p (agreed p t) ≡ 42 → wild (42 ∷ p) t ≡ wild (42 ∷ drop (agreed p t + 1) p) (drop (agreed p t) t)
+pub wild-next_star : (p t : List ℕ) → agreed p t < length p → slice_index p (agreed p t) ≡ 42
+    → wild (42 ∷ p) t ≡ wild (42 ∷ drop (agreed p t + 1) p) (drop (agreed p t) t)
 wild-next_star p t h e = both (wild (42 ∷ p) t) (wild (42 ∷ drop (agreed p t + 1) p) (drop (agreed p t) t)) there back
   where
     there : wild (42 ∷ p) t ≡ true → wild (42 ∷ drop (agreed p t + 1) p) (drop (agreed p t) t) ≡ true
@@ -120,9 +125,11 @@ wild-next_star p t h e = both (wild (42 ∷ p) t) (wild (42 ∷ drop (agreed p t
     back m = star-here p t (wild-star p t h e ∙ m)
 
 -- it doesn't match here
-wild-fails : (p t : List ℕ) → (agreed p t < length p → slice_index p (agreed p t) ≡ 42 → ⊥) → (agreed p t ≡ length p → agreed p t ≡ length t → ⊥) → wild p t ≡ false
+wild-fails : (p t : List ℕ) → (agreed p t < length p → slice_index p (agreed p t) ≡ 42 → ⊥)
+    → (agreed p t ≡ length p → agreed p t ≡ length t → ⊥) → wild p t ≡ false
 wild-fails p t h k = elim (split (agreed p t == length p)) [
-  | inl e ↦ wild-whole p t (eqb-true (agreed p t) (length p) e) ∙ ne_eqb (length p) (length t) (λ same. k (eqb-true _ _ e) (eqb-true _ _ e ∙ same))
+  | inl e ↦ wild-whole p t (eqb-true (agreed p t) (length p) e)
+      ∙ ne_eqb (length p) (length t) (λ same. k (eqb-true _ _ e) (eqb-true _ _ e ∙ same))
   | inr e ↦ let below : agreed p t < length p = grind (arith, e, (agreed-le p t).0) in
       wild-refused p t below (ne_eqb (slice_index p (agreed p t)) 42 (h below))
 ]
@@ -130,19 +137,29 @@ wild-fails p t h k = elim (split (agreed p t == length p)) [
 -- ---- by the tests of the code
 
 star_parts : (p : List ℕ) (n : ℕ) → is_star p n ≡ true → (n < length p) × (slice_index p n ≡ 42)
-star_parts p n h = let q = and_parts (nat_lt n (length p)) (slice_index p n == 42) h in (ltb-true n (length p) q.0, eqb-true (slice_index p n) 42 q.1)
+star_parts p n h = let q =
+    and_parts (nat_lt n (length p)) (slice_index p n == 42) h in
+    (ltb-true n (length p) q.0, eqb-true (slice_index p n) 42 q.1)
 
 whole_parts : (p t : List ℕ) (n : ℕ) → is_whole p t n ≡ true → (n ≡ length p) × (n ≡ length t)
-whole_parts p t n h = let q = and_parts (n == length p) (n == length t) h in (eqb-true n (length p) q.0, eqb-true n (length t) q.1)
+whole_parts p t n h = let q =
+    and_parts (n == length p) (n == length t) h in (eqb-true n (length p) q.0, eqb-true n (length t) q.1)
 
-pub star-first : (p t : List ℕ) (n : ℕ) → n ≡ agreed p t → is_star p n ≡ true → wild p t ≡ wild (42 ∷ drop (n + 1) p) (drop n t)
-star-first p t n e h = let q = star_parts p n h in rw e (wild-star p t (subst (λ m. m < length p) e q.0) (subst (λ m. slice_index p m ≡ 42) e q.1))
+pub star-first : (p t : List ℕ) (n : ℕ) → n ≡ agreed p t → is_star p n ≡ true
+    → wild p t ≡ wild (42 ∷ drop (n + 1) p) (drop n t)
+star-first p t n e h = let q =
+    star_parts p n h in rw e
+    (wild-star p t (subst (λ m. m < length p) e q.0) (subst (λ m. slice_index p m ≡ 42) e q.1))
 
-pub star-next : (p t : List ℕ) (n : ℕ) → n ≡ agreed p t → is_star p n ≡ true → wild (42 ∷ p) t ≡ wild (42 ∷ drop (n + 1) p) (drop n t)
-star-next p t n e h = let q = star_parts p n h in rw e (wild-next_star p t (subst (λ m. m < length p) e q.0) (subst (λ m. slice_index p m ≡ 42) e q.1))
+pub star-next : (p t : List ℕ) (n : ℕ) → n ≡ agreed p t → is_star p n ≡ true
+    → wild (42 ∷ p) t ≡ wild (42 ∷ drop (n + 1) p) (drop n t)
+star-next p t n e h = let q =
+    star_parts p n h in rw e
+    (wild-next_star p t (subst (λ m. m < length p) e q.0) (subst (λ m. slice_index p m ≡ 42) e q.1))
 
 whole-here : (p t : List ℕ) (n : ℕ) → n ≡ agreed p t → is_whole p t n ≡ true → wild p t ≡ true
-whole-here p t n e h = let q = whole_parts p t n h in wild-whole p t (sym e ∙ q.0) ∙ eq-eqb (length p) (length t) (sym q.0 ∙ q.1)
+whole-here p t n e h = let q =
+    whole_parts p t n h in wild-whole p t (sym e ∙ q.0) ∙ eq-eqb (length p) (length t) (sym q.0 ∙ q.1)
 
 fails-here : (p t : List ℕ) (n : ℕ) → n ≡ agreed p t → is_star p n ≡ false → is_whole p t n ≡ false → wild p t ≡ false
 fails-here p t n e h k = wild-fails p t
@@ -158,11 +175,13 @@ whole-only p t n e h = elim (split (is_whole p t n)) [
 pub place-here : (p t : List ℕ) (n : ℕ) → n ≡ agreed p t → is_whole p t n ≡ true → wild (42 ∷ p) t ≡ true
 place-here p t n e h = star-here p t (whole-here p t n e h)
 
-pub place-last : (p t : List ℕ) (n : ℕ) → n ≡ agreed p t → is_star p n ≡ false → is_whole p t n ≡ false → length t ≡ 0 → wild (42 ∷ p) t ≡ false
+pub place-last : (p t : List ℕ) (n : ℕ) → n ≡ agreed p t → is_star p n ≡ false → is_whole p t n ≡ false → length t ≡ 0
+    → wild (42 ∷ p) t ≡ false
 place-last p [] n e h k l = fails-here p [] n e h k
 place-last p (t ∷ ts) n e h k l = absurd (omega (arith, l))
 
-pub place-next : (p t : List ℕ) (n : ℕ) → n ≡ agreed p t → is_star p n ≡ false → is_whole p t n ≡ false → 0 < length t → wild (42 ∷ p) t ≡ wild (42 ∷ p) (drop 1 t)
+pub place-next : (p t : List ℕ) (n : ℕ) → n ≡ agreed p t → is_star p n ≡ false → is_whole p t n ≡ false → 0 < length t
+    → wild (42 ∷ p) t ≡ wild (42 ∷ p) (drop 1 t)
 place-next p [] n e h k l = absurd (omega (arith, l))
 place-next p (t ∷ ts) n e h k l = ap (λ b. b || wild (42 ∷ p) ts) (fails-here p (t ∷ ts) n e h k)
 

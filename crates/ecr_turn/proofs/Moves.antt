@@ -62,7 +62,8 @@ module _ {B : Type 0} (lines : B → List Line) (frame : B → Frame) (fixed : F
   abbrev Rule : St → Type 0
   Rule = Kept lines frame fixed
 
-  unmoved : (s : St) (r : Rule s) (i id : ℕ) (me : M) → get_elem? s.views id ≡ some me.0 → Rule (stepped s i (get_or s.words i 0) id me.1 me.0 keeps)
+  unmoved : (s : St) (r : Rule s) (i id : ℕ) (me : M) → get_elem? s.views id ≡ some me.0
+      → Rule (stepped s i (get_or s.words i 0) id me.1 me.0 keeps)
   unmoved s r i id me at = record {
     count = r.count;
     tickets = r.tickets;
@@ -71,12 +72,17 @@ module _ {B : Type 0} (lines : B → List Line) (frame : B → Frame) (fixed : F
     home = r.home;
     words_are = set-get_or s.words i 0 ∙ r.words_are;
     homes_are = r.homes_are;
-    order = subst (Order lines frame fixed r.count r.tickets r.serving r.callers r.home) (sym (set_again s.views id me.0 at)) r.order;
+    order = subst (Order lines frame fixed r.count r.tickets r.serving r.callers r.home)
+        (sym (set_again s.views id me.0 at)) r.order;
   }
 
-  pub may_draw : (slots id : ℕ) (me : M) (old : ℕ) → me.0.stage ≡ Idle → old < 18446744073709551615 → Allows Rule slots id me 1 (λ x. either (eqb x old) (old + 1) x) (drew (step slots 1 old (old + 1) none) me)
-  may_draw slots id me old idle room s r _ at small = let x : ℕ = get_or s.words 1 0 in let is : x ≡ r.tickets = ap (λ (ws : List ℕ). get_or ws 1 0) r.words_are in
-      exchanged x old (old + 1) (λ y. (w : View) × (a : Act (Option B)) × Valid s.homes me.1 a × Rule (stepped s 1 y id me.1 w a) × drew (step slots 1 old (old + 1) none) me x (w, carried_after me.1 a))
+  pub may_draw : (slots id : ℕ) (me : M) (old : ℕ) → me.0.stage ≡ Idle → old < 18446744073709551615
+      → Allows Rule slots id me 1 (λ x. either (eqb x old) (old + 1) x) (drew (step slots 1 old (old + 1) none) me)
+  may_draw slots id me old idle room s r _ at small =
+      let x : ℕ = get_or s.words 1 0 in let is : x ≡ r.tickets = ap (λ (ws : List ℕ). get_or ws 1 0) r.words_are in
+      exchanged x old (old + 1)
+      (λ y. (w : View) × (a : Act (Option B)) × Valid s.homes me.1 a × Rule (stepped s 1 y id me.1 w a)
+      × drew (step slots 1 old (old + 1) none) me x (w, carried_after me.1 a))
       (λ hit. let tickets : r.tickets ≡ old = sym is ∙ hit in (
         waiting old me.0,
         keeps,
@@ -87,22 +93,31 @@ module _ {B : Type 0} (lines : B → List Line) (frame : B → Frame) (fixed : F
           serving = r.serving;
           callers = r.callers;
           home = r.home;
-          words_are = ap (λ (ws : List ℕ). set ws 1 (old + 1)) r.words_are ∙ ap (λ (z : ℕ). r.count ∷ z ∷ r.serving ∷ r.callers ∷ []) (let e : old + 1 ≡ suc old = omega arith in e);
+          words_are = ap (λ (ws : List ℕ). set ws 1 (old + 1)) r.words_are
+              ∙ ap (λ (z : ℕ). r.count ∷ z ∷ r.serving ∷ r.callers ∷ [])
+              (let e : old + 1 ≡ suc old = omega arith in e);
           homes_are = r.homes_are;
-          order = subst (λ (z : ℕ). Order lines frame fixed r.count (suc z) r.serving r.callers r.home (set s.views id (waiting z me.0))) tickets
-              (draws lines frame fixed r.count r.tickets r.serving r.callers r.home s.views r.order id me.0 at idle (omega arith));
+          order = subst (λ (z : ℕ). Order lines frame fixed r.count (suc z) r.serving r.callers r.home
+              (set s.views id (waiting z me.0))) tickets
+              (draws lines frame fixed r.count r.tickets r.serving r.callers r.home s.views r.order id me.0 at idle
+              (omega arith));
         },
         ((λ e. ap (λ (z : ℕ). (waiting z me.0, me.1)) (sym e)), λ not. absurd (not hit)),
       ))
       (λ miss. (me.0, keeps, tt, unmoved s r 1 id me at, ((λ hit. absurd (miss hit)), λ _. refl)))
 
-  pub may_look : (slots id : ℕ) (me : M) (t : ℕ) → me.0.stage ≡ Waits t → Allows Rule slots id me 2 (λ x. x) (looked lines frame (step slots 2 0 0 none) me)
-  may_look slots id me t waits s r _ at small = let x : ℕ = get_or s.words 2 0 in let is : x ≡ r.serving = ap (λ (ws : List ℕ). get_or ws 2 0) r.words_are in dite (ℕ_discrete t x)
+  pub may_look : (slots id : ℕ) (me : M) (t : ℕ) → me.0.stage ≡ Waits t
+      → Allows Rule slots id me 2 (λ x. x) (looked lines frame (step slots 2 0 0 none) me)
+  may_look slots id me t waits s r _ at small =
+      let x : ℕ = get_or s.words 2 0 in let is : x ≡ r.serving = ap
+      (λ (ws : List ℕ). get_or ws 2 0) r.words_are in dite (ℕ_discrete t x)
       (λ hit. let now : t ≡ r.serving = hit ∙ is in
-      let f = finds lines frame fixed r.count r.tickets r.serving r.callers r.home s.views r.order id me.0 at (waits ∙ ap (λ (z : ℕ). let y : Stage = Waits z in y) now) in let b : B = f.0 in (
+      let f = finds lines frame fixed r.count r.tickets r.serving r.callers r.home s.views r.order id me.0 at
+      (waits ∙ ap (λ (z : ℕ). let y : Stage = Waits z in y) now) in let b : B = f.0 in (
         finding t (lines b) me.0,
         takes 0 (Some b),
-        ap (λ (hs : List (maybe.Option (Option B))). get_elem? hs 0) r.homes_are ∙ ap (λ (h : maybe.Option (Option B)). some h) f.1,
+        ap (λ (hs : List (maybe.Option (Option B))). get_elem? hs 0) r.homes_are
+            ∙ ap (λ (h : maybe.Option (Option B)). some h) f.1,
         record {
           count = r.count;
           tickets = r.tickets;
@@ -111,36 +126,50 @@ module _ {B : Type 0} (lines : B → List Line) (frame : B → Frame) (fixed : F
           home = none;
           words_are = set-get_or s.words 2 0 ∙ r.words_are;
           homes_are = ap (λ (hs : List (maybe.Option (Option B))). set hs 0 none) r.homes_are;
-          order = subst (λ (z : ℕ). Order lines frame fixed r.count r.tickets r.serving r.callers none (set s.views id (finding z (lines b) me.0))) (sym now) f.3;
+          order = subst (λ (z : ℕ). Order lines frame fixed r.count r.tickets r.serving r.callers none
+              (set s.views id (finding z (lines b) me.0))) (sym now) f.3;
         },
         λ t' e. let same : t ≡ t' = ap waits_for (sym waits ∙ e) in (
           (λ ne. absurd (ne (sym same ∙ hit))),
           λ _. (b, ap (λ (z : ℕ). (finding z (lines b) me.0, (0, Some b) ∷ me.1)) same, f.2),
         ),
       ))
-      (λ miss. (me.0, keeps, tt, unmoved s r 2 id me at, λ t' e. let same : t ≡ t' = ap waits_for (sym waits ∙ e) in ((λ _. refl), λ hit. absurd (miss (same ∙ hit)))))
+      (λ miss. (
+        me.0,
+        keeps,
+        tt,
+        unmoved s r 2 id me at,
+        λ t' e. let same : t ≡ t' = ap waits_for (sym waits ∙ e) in
+            ((λ _. refl), λ hit. absurd (miss (same ∙ hit))),
+      ))
 
-  pub may_learn : (slots id : ℕ) (me : M) (t : ℕ) (ls : List Line) → me.0.stage ≡ Found t ls → Allows Rule slots id me 0 (λ x. x) (learned (step slots 0 0 0 none) me)
-  may_learn slots id me t ls finds_ s r _ at small = let learn = learns lines frame fixed r.count r.tickets r.serving r.callers r.home s.views r.order id me.0 at in (
-    holding t ls me.0,
-    keeps,
-    tt,
-    record {
-      count = r.count;
-      tickets = r.tickets;
-      serving = r.serving;
-      callers = r.callers;
-      home = r.home;
-      words_are = set-get_or s.words 0 0 ∙ r.words_are;
-      homes_are = r.homes_are;
-      order = (learn t ls finds_).3;
-    },
-    λ t' ls' e. let same : t ≡ t' = ap found_at (sym finds_ ∙ e) in let seen : ls ≡ ls' = ap found_seen (sym finds_ ∙ e) in let q = learn t' ls' e in ((λ i. (holding (same i) (seen i) me.0, me.1)), q.0, q.1, q.2),
-  )
+  pub may_learn : (slots id : ℕ) (me : M) (t : ℕ) (ls : List Line) → me.0.stage ≡ Found t ls
+      → Allows Rule slots id me 0 (λ x. x) (learned (step slots 0 0 0 none) me)
+  may_learn slots id me t ls finds_ s r _ at small =
+      let learn = learns lines frame fixed r.count r.tickets r.serving r.callers r.home s.views r.order id me.0 at in (
+        holding t ls me.0,
+        keeps,
+        tt,
+        record {
+          count = r.count;
+          tickets = r.tickets;
+          serving = r.serving;
+          callers = r.callers;
+          home = r.home;
+          words_are = set-get_or s.words 0 0 ∙ r.words_are;
+          homes_are = r.homes_are;
+          order = (learn t ls finds_).3;
+        },
+        λ t' ls' e. let same : t ≡ t' =
+            ap found_at (sym finds_ ∙ e) in let seen : ls ≡ ls' = ap found_seen (sym finds_ ∙ e) in let q =
+            learn t' ls' e in ((λ i. (holding (same i) (seen i) me.0, me.1)), q.0, q.1, q.2),
+      )
 
-  pub may_record : (slots id : ℕ) (me : M) (t : ℕ) (b : B) (l : Line) → me.0.stage ≡ Holds t → me.1 ≡ (0, Some b) ∷ [] → lines b ≡ me.0.seen ++ l ∷ [] → l.ticket ≡ t → l.caller ≡ me.0.caller
+  pub may_record : (slots id : ℕ) (me : M) (t : ℕ) (b : B) (l : Line) → me.0.stage ≡ Holds t → me.1 ≡ (0, Some b) ∷ []
+      → lines b ≡ me.0.seen ++ l ∷ [] → l.ticket ≡ t → l.caller ≡ me.0.caller
       → Allows Rule slots id me 0 (λ x. (x + 1) % 2 ^ 64) (recorded lines (step slots 0 1 0 none) me)
-  may_record slots id me t b l holds hand longer ticketed by s r _ at small = let x : ℕ = get_or s.words 0 0 in let is : x ≡ r.count = ap (λ (ws : List ℕ). get_or ws 0 0) r.words_are in
+  may_record slots id me t b l holds hand longer ticketed by s r _ at small =
+      let x : ℕ = get_or s.words 0 0 in let is : x ≡ r.count = ap (λ (ws : List ℕ). get_or ws 0 0) r.words_are in
       let q = records lines frame fixed r.count r.tickets r.serving r.callers r.home s.views r.order id me.0 at t b l holds longer ticketed by in let room = q.0 in
       let y : ℕ = (x + 1) % 18446744073709551616 in let next : y ≡ suc r.count = omega arith in (
         having_recorded t (lines b) me.0,
@@ -152,16 +181,21 @@ module _ {B : Type 0} (lines : B → List Line) (frame : B → Frame) (fixed : F
           serving = r.serving;
           callers = r.callers;
           home = r.home;
-          words_are = ap (λ (ws : List ℕ). set ws 0 y) r.words_are ∙ ap (λ (z : ℕ). z ∷ r.tickets ∷ r.serving ∷ r.callers ∷ []) next;
+          words_are = ap (λ (ws : List ℕ). set ws 0 y) r.words_are
+              ∙ ap (λ (z : ℕ). z ∷ r.tickets ∷ r.serving ∷ r.callers ∷ []) next;
           homes_are = r.homes_are;
           order = q.1;
         },
-        λ t' b' holds' hand'. let same : t ≡ t' = ap holds_of (sym holds ∙ holds') in let one : b ≡ b' = ap (in_hand b) (sym hand ∙ hand') in λ i. (having_recorded (same i) (lines (one i)) me.0, me.1),
+        λ t' b' holds' hand'. let same : t ≡ t' =
+            ap holds_of (sym holds ∙ holds') in let one : b ≡ b' = ap (in_hand b) (sym hand ∙ hand') in λ i.
+            (having_recorded (same i) (lines (one i)) me.0, me.1),
       )
 
-  pub may_pass_on : (slots id : ℕ) (me : M) (t : ℕ) (b : B) → has_learned me.0.stage ≡ true → HasTicket t me.0 → me.1 ≡ (0, Some b) ∷ [] → lines b ≡ me.0.seen → frame b ≡ me.0.frame
+  pub may_pass_on : (slots id : ℕ) (me : M) (t : ℕ) (b : B) → has_learned me.0.stage ≡ true → HasTicket t me.0
+      → me.1 ≡ (0, Some b) ∷ [] → lines b ≡ me.0.seen → frame b ≡ me.0.frame
       → Allows Rule slots id me 2 (λ x. (x + 1) % 2 ^ 64) (passed_on (step slots 2 1 0 none) me)
-  may_pass_on slots id me t b learns_ ticket hand seen framed s r _ at small = let x : ℕ = get_or s.words 2 0 in let is : x ≡ r.serving = ap (λ (ws : List ℕ). get_or ws 2 0) r.words_are in
+  may_pass_on slots id me t b learns_ ticket hand seen framed s r _ at small =
+      let x : ℕ = get_or s.words 2 0 in let is : x ≡ r.serving = ap (λ (ws : List ℕ). get_or ws 2 0) r.words_are in
       let q = passes lines frame fixed r.count r.tickets r.serving r.callers r.home s.views r.order id me.0 at t b learns_ ticket seen framed in let room = q.0 in
       let y : ℕ = (x + 1) % 18446744073709551616 in let next : y ≡ suc r.serving = omega arith in (
         gone_by t me.0,
@@ -173,54 +207,64 @@ module _ {B : Type 0} (lines : B → List Line) (frame : B → Frame) (fixed : F
           serving = suc r.serving;
           callers = r.callers;
           home = some (Some b);
-          words_are = ap (λ (ws : List ℕ). set ws 2 y) r.words_are ∙ ap (λ (z : ℕ). r.count ∷ r.tickets ∷ z ∷ r.callers ∷ []) next;
-          homes_are = ap (put_back s.homes) hand ∙ ap (λ (hs : List (maybe.Option (Option B))). set hs 0 (some (Some b))) r.homes_are;
+          words_are = ap (λ (ws : List ℕ). set ws 2 y) r.words_are
+              ∙ ap (λ (z : ℕ). r.count ∷ r.tickets ∷ z ∷ r.callers ∷ []) next;
+          homes_are = ap (put_back s.homes) hand
+              ∙ ap (λ (hs : List (maybe.Option (Option B))). set hs 0 (some (Some b))) r.homes_are;
           order = q.1;
         },
-        λ t' e. let same : t ≡ t' = same_some t t' (sym ticket ∙ e) in let empty : rest me.1 ≡ [] = ap rest hand in λ i. (gone_by (same i) me.0, empty i),
+        λ t' e. let same : t ≡ t' =
+            same_some t t' (sym ticket ∙ e) in let empty : rest me.1 ≡ [] = ap rest hand in λ i.
+            (gone_by (same i) me.0, empty i),
       )
 
-  pub opens : (b : B) (slots : List (Option B)) → slots ≡ Some b ∷ [] → lines b ≡ [] → frame b ≡ fixed → Rule (opening (0 ∷ 0 ∷ 0 ∷ 1 ∷ []) slots (newcomer fixed))
-  opens b slots is fresh framed = subst (λ (z : List (Option B)). Rule (opening (0 ∷ 0 ∷ 0 ∷ 1 ∷ []) z (newcomer fixed))) (sym is) record {
-    count = 0;
-    tickets = 0;
-    serving = 0;
-    callers = 1;
-    home = some (Some b);
-    words_are = refl;
-    homes_are = refl;
-    order = record {
-      log = [];
-      counted = refl;
-      begun = omega arith;
-      room = omega arith;
-      rises = omega arith;
-      unrecorded = λ _. omega arith;
-      numbered = tt;
-      each = only (Suits [] 0 0 1 fixed) (newcomer fixed) record {
-        known = λ _. (omega arith, Grows-none 0 0 []);
-        aware = omega arith;
-        behind = omega arith;
-        framed = λ _. refl;
-        drawn = λ t e. absurd (none_some t e);
-        served = λ t e _. absurd (off e);
-        whole = λ e. absurd (off e);
-        found = λ e. absurd (off e);
-        promised = λ m e. absurd (none_some m e);
-        joined = (omega arith, Follows-first []);
-      };
-      longest = (0, newcomer fixed, refl, (refl, refl));
-      away = only (λ u. in_turn u.stage ≡ true → some (Some b) ≡ none) (newcomer fixed) (λ e. absurd (off e));
-      one_holder = λ t. alone_one (HasTicket t) (newcomer fixed);
-      held = λ t low high. absurd (omega arith);
-      one_caller = λ n. alone_one (HasNumber n) (newcomer fixed);
-      at_home = λ _. (b, refl, fresh, framed);
-    };
-  }
+  pub opens : (b : B) (slots : List (Option B)) → slots ≡ Some b ∷ [] → lines b ≡ [] → frame b ≡ fixed
+      → Rule (opening (0 ∷ 0 ∷ 0 ∷ 1 ∷ []) slots (newcomer fixed))
+  opens b slots is fresh framed =
+      subst (λ (z : List (Option B)). Rule (opening (0 ∷ 0 ∷ 0 ∷ 1 ∷ []) z (newcomer fixed))) (sym is) record {
+        count = 0;
+        tickets = 0;
+        serving = 0;
+        callers = 1;
+        home = some (Some b);
+        words_are = refl;
+        homes_are = refl;
+        order = record {
+          log = [];
+          counted = refl;
+          begun = omega arith;
+          room = omega arith;
+          rises = omega arith;
+          unrecorded = λ _. omega arith;
+          numbered = tt;
+          each = only (Suits [] 0 0 1 fixed) (newcomer fixed) record {
+            known = λ _. (omega arith, Grows-none 0 0 []);
+            aware = omega arith;
+            behind = omega arith;
+            framed = λ _. refl;
+            drawn = λ t e. absurd (none_some t e);
+            served = λ t e _. absurd (off e);
+            whole = λ e. absurd (off e);
+            found = λ e. absurd (off e);
+            promised = λ m e. absurd (none_some m e);
+            joined = (omega arith, Follows-first []);
+          };
+          longest = (0, newcomer fixed, refl, (refl, refl));
+          away = only (λ u. in_turn u.stage ≡ true → some (Some b) ≡ none) (newcomer fixed) (λ e. absurd (off e));
+          one_holder = λ t. alone_one (HasTicket t) (newcomer fixed);
+          held = λ t low high. absurd (omega arith);
+          one_caller = λ n. alone_one (HasNumber n) (newcomer fixed);
+          at_home = λ _. (b, refl, fresh, framed);
+        };
+      }
 
-  pub may_name : (slots id : ℕ) (me : M) (old : ℕ) → me.0.stage ≡ Idle → Allows Rule slots id me 3 (λ x. either (eqb x old) (old + 1) x) (named (step slots 3 old (old + 1) none) me)
-  may_name slots id me old idle s r _ at small = let x : ℕ = get_or s.words 3 0 in let is : x ≡ r.callers = ap (λ (ws : List ℕ). get_or ws 3 0) r.words_are in
-      exchanged x old (old + 1) (λ y. (w : View) × (a : Act (Option B)) × Valid s.homes me.1 a × Rule (stepped s 3 y id me.1 w a) × named (step slots 3 old (old + 1) none) me x (w, carried_after me.1 a))
+  pub may_name : (slots id : ℕ) (me : M) (old : ℕ) → me.0.stage ≡ Idle
+      → Allows Rule slots id me 3 (λ x. either (eqb x old) (old + 1) x) (named (step slots 3 old (old + 1) none) me)
+  may_name slots id me old idle s r _ at small =
+      let x : ℕ = get_or s.words 3 0 in let is : x ≡ r.callers = ap (λ (ws : List ℕ). get_or ws 3 0) r.words_are in
+      exchanged x old (old + 1)
+      (λ y. (w : View) × (a : Act (Option B)) × Valid s.homes me.1 a × Rule (stepped s 3 y id me.1 w a)
+      × named (step slots 3 old (old + 1) none) me x (w, carried_after me.1 a))
       (λ hit. let callers : r.callers ≡ old = sym is ∙ hit in let q = names lines frame fixed r.count r.tickets r.serving r.callers r.home s.views r.order id me.0 at idle in (
         naming old me.0,
         keeps,
@@ -231,12 +275,22 @@ module _ {B : Type 0} (lines : B → List Line) (frame : B → Frame) (fixed : F
           serving = r.serving;
           callers = suc old;
           home = r.home;
-          words_are = ap (λ (ws : List ℕ). set ws 3 (old + 1)) r.words_are ∙ ap (λ (z : ℕ). r.count ∷ r.tickets ∷ r.serving ∷ z ∷ []) (let e : old + 1 ≡ suc old = omega arith in e);
+          words_are = ap (λ (ws : List ℕ). set ws 3 (old + 1)) r.words_are
+              ∙ ap (λ (z : ℕ). r.count ∷ r.tickets ∷ r.serving ∷ z ∷ [])
+              (let e : old + 1 ≡ suc old = omega arith in e);
           homes_are = r.homes_are;
-          order = subst (λ (z : ℕ). Order lines frame fixed r.count r.tickets r.serving (suc z) r.home (set s.views id (naming z me.0))) callers q.3;
+          order = subst (λ (z : ℕ). Order lines frame fixed r.count r.tickets r.serving (suc z) r.home
+              (set s.views id (naming z me.0))) callers q.3;
         },
         (
-          (λ e. (ap (λ (z : ℕ). (naming z me.0, me.1)) (sym e), subst (λ (z : ℕ). z ≢ me.0.caller) (sym is) q.0, subst (λ (z : ℕ). Each (λ l. l.caller ≢ z) me.0.seen) (sym is) q.1, subst (λ (z : ℕ). me.0.callers ≤ z) (sym is) q.2)),
+          (λ e. (
+            ap (λ (z : ℕ). (naming z me.0, me.1)) (sym e),
+            subst (λ (z : ℕ). z ≢ me.0.caller) (sym is) q.0,
+            subst
+                (λ (z : ℕ). Each (λ l. l.caller ≢ z) me.0.seen) (sym is) q.1,
+            subst (λ (z : ℕ). me.0.callers ≤ z)
+                (sym is) q.2,
+          )),
           λ not_. absurd (not_ hit),
         ),
       ))
@@ -254,7 +308,8 @@ module _ {B : Type 0} (lines : B → List Line) (frame : B → Frame) (fixed : F
     order = splits lines frame fixed r.count r.tickets r.serving r.callers r.home s.views r.order id v at y names_;
   }
 
-  pub may_join : (id : ℕ) (v : View) (other : ℕ) (w : View) → v.stage ≡ Idle → w.stage ≡ Idle → Joins Rule id v other w (joining v w) spent
+  pub may_join : (id : ℕ) (v : View) (other : ℕ) (w : View) → v.stage ≡ Idle → w.stage ≡ Idle
+      → Joins Rule id v other w (joining v w) spent
   may_join id v other w idle rested s r at apart there = record {
     count = r.count;
     tickets = r.tickets;
@@ -266,7 +321,8 @@ module _ {B : Type 0} (lines : B → List Line) (frame : B → Frame) (fixed : F
     order = joins lines frame fixed r.count r.tickets r.serving r.callers r.home s.views r.order id v at idle other w apart there rested;
   }
 
-  pub may_take_in : (slots id : ℕ) (me : M) (p : ℕ) (ls : List Line) → me.0.stage ≡ Joined p ls → Allows Rule slots id me 0 (λ x. x) (took_in (step slots 0 0 0 none) me)
+  pub may_take_in : (slots id : ℕ) (me : M) (p : ℕ) (ls : List Line) → me.0.stage ≡ Joined p ls
+      → Allows Rule slots id me 0 (λ x. x) (took_in (step slots 0 0 0 none) me)
   may_take_in slots id me p ls joins_ s r _ at small = let take = takes_in lines frame fixed r.count r.tickets r.serving r.callers r.home s.views r.order id me.0 at in let q = take p ls joins_ in (
     merged me.0,
     keeps,

@@ -27,29 +27,58 @@ turn_live (Named n) e = refl
 turn_live (Joined p ls) e = refl
 turn_live Spent e = e
 
-pub NoneOf-before : (test : Stage → Bool) (vs : List View) (id : ℕ) (v w : View) → get_elem? vs id ≡ some v → test v.stage ≡ false → NoneOf test (set vs id w) → NoneOf test vs
-NoneOf-before test vs id v w at isn't all j u there = dite (ℕ_discrete j id) (λ e. subst (λ (z : View). test z.stage ≡ false) (same_view vs id v u at (subst (λ (z : ℕ). get_elem? vs z ≡ some u) e there)) isn't)
+pub NoneOf-before : (test : Stage → Bool) (vs : List View) (id : ℕ) (v w : View) → get_elem? vs id ≡ some v
+    → test v.stage ≡ false → NoneOf test (set vs id w) → NoneOf test vs
+NoneOf-before test vs id v w at isn't all j u there =
+    dite (ℕ_discrete j id)
+    (λ e. subst (λ (z : View). test z.stage ≡ false)
+    (same_view vs id v u at (subst (λ (z : ℕ). get_elem? vs z ≡ some u) e there)) isn't)
     (λ ne. all j u (set_else vs id j w ne ∙ there))
 
-pub numbers_back : (m : ℕ) (v w : View) → is_live v.stage ≡ true → w.caller ≡ v.caller → named_of w.stage ≡ None → HasNumber m w → HasNumber m v
-numbers_back m v w live same unnamed h = ⊎_elim (λ (t : (is_live w.stage ≡ true) × (w.caller ≡ m)). inl (live, sym same ∙ t.1)) (λ (e : named_of w.stage ≡ Some m). absurd (none_some m (sym unnamed ∙ e))) h
+pub numbers_back : (m : ℕ) (v w : View) → is_live v.stage ≡ true → w.caller ≡ v.caller → named_of w.stage ≡ None
+    → HasNumber m w → HasNumber m v
+numbers_back m v w live same unnamed h =
+    ⊎_elim (λ (t : (is_live w.stage ≡ true) × (w.caller ≡ m)). inl (live, sym same ∙ t.1))
+    (λ (e : named_of w.stage ≡ Some m). absurd (none_some m (sym unnamed ∙ e))) h
 
-pub Some-set : (P : View → Type 0) (vs : List View) (id : ℕ) (v w : View) → get_elem? vs id ≡ some v → (P v → P w) → SomeOne P vs → SomeOne P (set vs id w)
+pub Some-set : (P : View → Type 0) (vs : List View) (id : ℕ) (v w : View) → get_elem? vs id ≡ some v → (P v → P w)
+    → SomeOne P vs → SomeOne P (set vs id w)
 Some-set P vs id v w at on h = dite (ℕ_discrete h.0 id)
-    (λ e. (id, w, set_at vs id v w at, on (subst P (sym (same_view vs id v h.1 at (subst (λ (z : ℕ). get_elem? vs z ≡ some h.1) e h.2))) h.3)))
+    (λ e. (
+      id,
+      w,
+      set_at vs id v w at,
+      on
+          (subst P (sym (same_view vs id v h.1 at (subst (λ (z : ℕ). get_elem? vs z ≡ some h.1) e h.2))) h.3),
+    ))
     (λ ne. (h.0, h.1, set_else vs id h.0 w ne ∙ h.2, h.3))
 
 -- a pass that has seen the whole journal, and goes on knowing it
-pub still_seen : (log : List Line) (v w : View) → w.seen ≡ v.seen → is_live w.stage ≡ true → joined_seen w.stage ≡ joined_seen v.stage → HasSeen log v → HasSeen log w
+pub still_seen : (log : List Line) (v w : View) → w.seen ≡ v.seen → is_live w.stage ≡ true
+    → joined_seen w.stage ≡ joined_seen v.stage → HasSeen log v → HasSeen log w
 still_seen log v w same live joined h = (live, (λ i. longer_of (same i) (joined i)) ∙ h.1)
 
 -- what a spent pass had seen, the one that it was joined to has
-pub given_over : (log : List Line) (vs : List View) (id other : ℕ) (b w z : View) → ¬ (id ≡ other) → get_elem? vs id ≡ some b → get_elem? vs other ≡ some w → is_live b.stage ≡ true → joined_seen b.stage ≡ w.seen
-    → joined_seen w.stage ≡ [] → (news : List Line) → log ≡ b.seen ++ news → SomeOne (HasSeen log) vs → SomeOne (HasSeen log) (set vs other z)
+pub given_over : (log : List Line) (vs : List View) (id other : ℕ) (b w z : View) → ¬ (id ≡ other)
+    → get_elem? vs id ≡ some b → get_elem? vs other ≡ some w → is_live b.stage ≡ true → joined_seen b.stage ≡ w.seen
+    → joined_seen w.stage ≡ [] → (news : List Line) → log ≡ b.seen ++ news → SomeOne (HasSeen log) vs
+    → SomeOne (HasSeen log) (set vs other z)
 given_over log vs id other b w z apart here there live holds plain news longer h = dite (ℕ_discrete h.0 other)
     (λ e. let same : w ≡ h.1 = same_view vs other w h.1 there (subst (λ (y : ℕ). get_elem? vs y ≡ some h.1) e h.2) in
-    let whole : w.seen ≡ log = sym (longer_of-nil w.seen) ∙ (ap (λ (y : List Line). longer_of w.seen y) (sym plain) ∙ (ap (λ (y : View). longer_of y.seen (joined_seen y.stage)) same ∙ h.3.1)) in
-    (id, b, set_else vs other id z apart ∙ here, (live, ap (λ (y : List Line). longer_of b.seen y) (holds ∙ (whole ∙ longer)) ∙ (longer_of-grows b.seen news ∙ sym longer))))
+    let whole : w.seen ≡ log =
+    sym (longer_of-nil w.seen) ∙
+    (ap (λ (y : List Line). longer_of w.seen y) (sym plain)
+    ∙ (ap (λ (y : View). longer_of y.seen (joined_seen y.stage)) same ∙ h.3.1)) in (
+      id,
+      b,
+      set_else vs other id z apart
+          ∙ here,
+      (
+        live,
+        ap (λ (y : List Line). longer_of b.seen y) (holds ∙ (whole ∙ longer))
+            ∙ (longer_of-grows b.seen news ∙ sym longer),
+      ),
+    ))
     (λ ne. (h.0, h.1, set_else vs other h.0 z ne ∙ h.2, h.3))
 
 module _ {B : Type 0} (lines : B → List Line) (frame : B → Frame) (fixed : Frame) where
@@ -60,14 +89,19 @@ module _ {B : Type 0} (lines : B → List Line) (frame : B → Frame) (fixed : F
   Rule = Order lines frame fixed
 
   -- nobody but the holder of the ticket that is served is in the turn
-  pub alone : (c n s k : ℕ) (h : Home) (vs : List View) (o : Rule c n s k h vs) (id : ℕ) (v : View) → get_elem? vs id ≡ some v → HasTicket s v
+  pub alone : (c n s k : ℕ) (h : Home) (vs : List View) (o : Rule c n s k h vs) (id : ℕ) (v : View)
+      → get_elem? vs id ≡ some v → HasTicket s v
       → (j : ℕ) (u : View) → j ≢ id → get_elem? vs j ≡ some u → in_turn u.stage ≡ false
   alone c n s k h vs o id v at mine j u other there = is_false (in_turn u.stage)
-      (λ e. let t = turn_ticket u.stage e in other (o.one_holder s j id u v there at (t.1 ∙ ap (λ (z : ℕ). let x : Option ℕ = Some z in x) ((o.each j u there).served t.0 e t.1)) mine))
+      (λ e. let t = turn_ticket u.stage e in other
+      (o.one_holder s j id u v there at
+      (t.1 ∙ ap (λ (z : ℕ). let x : Option ℕ = Some z in x) ((o.each j u there).served t.0 e t.1)) mine))
 
   -- a step of a pass that stands in no turn, before and after, which gains no number
-  pub rests : (c n s k : ℕ) (h : Home) (vs : List View) (o : Rule c n s k h vs) (id : ℕ) (v w : View) → get_elem? vs id ≡ some v → ticket_of v.stage ≡ None → in_turn v.stage ≡ false → has_recorded v.stage ≡ false
-      → ticket_of w.stage ≡ None → Suits o.log n s k fixed w → SomeOne (HasSeen o.log) (set vs id w) → ((m : ℕ) → HasNumber m w → HasNumber m v) → Rule c n s k h (set vs id w)
+  pub rests : (c n s k : ℕ) (h : Home) (vs : List View) (o : Rule c n s k h vs) (id : ℕ) (v w : View)
+      → get_elem? vs id ≡ some v → ticket_of v.stage ≡ None → in_turn v.stage ≡ false → has_recorded v.stage ≡ false
+      → ticket_of w.stage ≡ None → Suits o.log n s k fixed w → SomeOne (HasSeen o.log) (set vs id w)
+      → ((m : ℕ) → HasNumber m w → HasNumber m v) → Rule c n s k h (set vs id w)
   rests c n s k h vs o id v w at none_yet out fresh none_now suits whole numbers = record {
     log = o.log;
     counted = o.counted;
@@ -78,9 +112,13 @@ module _ {B : Type 0} (lines : B → List Line) (frame : B → Frame) (fixed : F
     numbered = o.numbered;
     each = set_each (Suits o.log n s k fixed) vs id w suits (λ j u other there. o.each j u there);
     longest = whole;
-    away = set_each (λ u. in_turn u.stage ≡ true → h ≡ none) vs id w (λ e. let t = turn_ticket w.stage e in absurd (none_some t.0 (sym none_now ∙ t.1))) (λ j u other there. o.away j u there);
-    one_holder = λ t. One-kept (HasTicket t) vs id v w at (λ e. absurd (none_some t (sym none_now ∙ e))) (o.one_holder t);
-    held = λ t low high. Some-set (HasTicket t) vs id v w at (λ e. absurd (none_some t (sym none_yet ∙ e))) (o.held t low high);
+    away = set_each (λ u. in_turn u.stage ≡ true → h ≡ none) vs id w
+        (λ e. let t = turn_ticket w.stage e in absurd (none_some t.0 (sym none_now ∙ t.1)))
+        (λ j u other there. o.away j u there);
+    one_holder = λ t. One-kept (HasTicket t) vs id v w at (λ e. absurd (none_some t (sym none_now ∙ e)))
+        (o.one_holder t);
+    held = λ t low high. Some-set (HasTicket t) vs id v w at (λ e. absurd (none_some t (sym none_yet ∙ e)))
+        (o.held t low high);
     one_caller = λ m. One-kept (HasNumber m) vs id v w at (numbers m) (o.one_caller m);
     at_home = λ all. o.at_home (NoneOf-before in_turn vs id v w at out all);
   }

@@ -31,7 +31,8 @@ Seat-sync S V s = record { shared = λ d b o κ q. part_keyless (the_row S V) (t
 Home-send : (S : RattleType) → IsSend S → IsSend (Option.the_row (Box.the_row S Heap.the_row ghosts))
 Home-send S s = option.the_send (Box.the_row S Heap.the_row ghosts) (Box-send S s)
 
-Place-sync : (S : RattleType) → IsSend S → IsSync (the_row (Option.the_row (Box.the_row S Heap.the_row ghosts)) View.the_row)
+Place-sync : (S : RattleType) → IsSend S
+    → IsSync (the_row (Option.the_row (Box.the_row S Heap.the_row ghosts)) View.the_row)
 Place-sync S s = Seat-sync (Option.the_row (Box.the_row S Heap.the_row ghosts)) View.the_row (Home-send S s)
 
 Inside-sync : (S : RattleType) (g : Ghosts S.Denot) → IsSend S → IsSync (inside.the_row S g)
@@ -41,15 +42,21 @@ pub Pass-sync : (S : RattleType) (g : Ghosts S.Denot) → IsSend S → IsSync (P
 Pass-sync S g s = search (s, Inside-sync, sendable, crosses) depth 60 fits 20000
 
 Board-sync : (S : RattleType) (g : Ghosts S.Denot) → IsSend S
-    → IsSync (Table.the_row (Option.the_row (Box.the_row S Heap.the_row ghosts)) View.the_row (Snapshot.the_row S) (InTurn.the_row S) Heap.the_row (rule.ghosts S g rule.no_dict) ghosts)
-Board-sync S g s = table.the_sync (Option.the_row (Box.the_row S Heap.the_row ghosts)) View.the_row (Snapshot.the_row S) (InTurn.the_row S) Heap.the_row (rule.ghosts S g rule.no_dict) ghosts
+    → IsSync (Table.the_row (Option.the_row (Box.the_row S Heap.the_row ghosts)) View.the_row (Snapshot.the_row S)
+    (InTurn.the_row S) Heap.the_row (rule.ghosts S g rule.no_dict) ghosts)
+Board-sync S g s = table.the_sync (Option.the_row (Box.the_row S Heap.the_row ghosts)) View.the_row
+    (Snapshot.the_row S) (InTurn.the_row S) Heap.the_row (rule.ghosts S g rule.no_dict) ghosts
     (Home-send S s) send sync frees
 
 Held-sync : (l : NamedLft) (S : RattleType) (g : Ghosts S.Denot) → IsSend S → IsSync (Held.the_field l S g).row
-Held-sync l S g s = struct_sync (shape (Held.the_type l S g)) (shr_sync _ _ _ (Board-sync S g s), (Place-sync S s, (search sendable, (search sendable, (search sendable, tt)))))
+Held-sync l S g s = struct_sync (shape (Held.the_type l S g))
+    (shr_sync _ _ _ (Board-sync S g s), (Place-sync S s, (search sendable, (search sendable, (search sendable, tt)))))
 
-Within-sync : (l : NamedLft) (S : RattleType) (g : Ghosts S.Denot) → IsSend S → IsSync S → IsSync (within.the_row l S g)
-Within-sync l S g s y = recorded_sync (within.the_field l S g).row _ _ (within.the_type l S g).to_one (struct_sync (shape (within.the_type l S g)) (Held-sync l S g s, (Box-sync S y, tt)))
+Within-sync : (l : NamedLft) (S : RattleType) (g : Ghosts S.Denot) → IsSend S → IsSync S
+    → IsSync (within.the_row l S g)
+Within-sync l S g s y = recorded_sync (within.the_field l S g).row _ _ (within.the_type l S g).to_one
+    (struct_sync (shape (within.the_type l S g)) (Held-sync l S g s, (Box-sync S y, tt)))
 
-pub Turn-sync : (l : NamedLft) (S : RattleType) (g : Ghosts S.Denot) → IsSend S → IsSync S → IsSync (Turn.the_row l S g)
+pub Turn-sync : (l : NamedLft) (S : RattleType) (g : Ghosts S.Denot) → IsSend S → IsSync S
+    → IsSync (Turn.the_row l S g)
 Turn-sync l S g s y = view_sync (within.the_row l S g) _ _ _ _ (Within-sync l S g s y)

@@ -79,33 +79,55 @@ set_at (x ∷ xs) (suc i) a b e = set_at xs i a b e
 pub same_view : (l : List View) (i : ℕ) (v w : View) → get_elem? l i ≡ some v → get_elem? l i ≡ some w → v ≡ w
 same_view l i v w e f = some-injective v w (sym e ∙ f)
 
-pub set_each : (P : View → Type 0) (l : List View) (i : ℕ) (w : View) → P w → ((j : ℕ) (u : View) → j ≢ i → get_elem? l j ≡ some u → P u) → (j : ℕ) (u : View) → get_elem? (set l i w) j ≡ some u → P u
-set_each P l i w mine others j u e = ⊎_elim (λ (t : (j ≡ i) × (w ≡ u)). subst P t.1 mine) (λ (t : (j ≢ i) × (get_elem? l j ≡ some u)). others j u t.0 t.1) (at_set l i j w u e)
+pub set_each : (P : View → Type 0) (l : List View) (i : ℕ) (w : View) → P w
+    → ((j : ℕ) (u : View) → j ≢ i → get_elem? l j ≡ some u → P u) → (j : ℕ) (u : View)
+    → get_elem? (set l i w) j ≡ some u → P u
+set_each P l i w mine others j u e =
+    ⊎_elim (λ (t : (j ≡ i) × (w ≡ u)). subst P t.1 mine)
+    (λ (t : (j ≢ i) × (get_elem? l j ≡ some u)). others j u t.0 t.1) (at_set l i j w u e)
 
 -- one view at most has P, also where w stands at i, if no other view has it where w does
-pub One-set : (P : View → Type 0) (l : List View) (i : ℕ) (w : View) → One P l → ((j : ℕ) (u : View) → j ≢ i → get_elem? l j ≡ some u → P u → P w → ⊥) → One P (set l i w)
+pub One-set : (P : View → Type 0) (l : List View) (i : ℕ) (w : View) → One P l
+    → ((j : ℕ) (u : View) → j ≢ i → get_elem? l j ≡ some u → P u → P w → ⊥) → One P (set l i w)
 One-set P l i w one apart j k u v ju kv pu pv =
-    ⊎_elim (λ (s : (j ≡ i) × (w ≡ u)). ⊎_elim (λ (t : (k ≡ i) × (w ≡ v)). s.0 ∙ sym t.0) (λ (t : (k ≢ i) × (get_elem? l k ≡ some v)). absurd (apart k v t.0 t.1 pv (subst P (sym s.1) pu))) (at_set l i k w v kv))
-    (λ (s : (j ≢ i) × (get_elem? l j ≡ some u)). ⊎_elim (λ (t : (k ≡ i) × (w ≡ v)). absurd (apart j u s.0 s.1 pu (subst P (sym t.1) pv))) (λ (t : (k ≢ i) × (get_elem? l k ≡ some v)). one j k u v s.1 t.1 pu pv) (at_set l i k w v kv))
+    ⊎_elim (λ (s : (j ≡ i) × (w ≡ u)). ⊎_elim (λ (t : (k ≡ i) × (w ≡ v)). s.0 ∙ sym t.0)
+    (λ (t : (k ≢ i) × (get_elem? l k ≡ some v)). absurd (apart k v t.0 t.1 pv (subst P (sym s.1) pu)))
+    (at_set l i k w v kv))
+    (λ (s : (j ≢ i) × (get_elem? l j ≡ some u)). ⊎_elim
+    (λ (t : (k ≡ i) × (w ≡ v)). absurd (apart j u s.0 s.1 pu (subst P (sym t.1) pv)))
+    (λ (t : (k ≢ i) × (get_elem? l k ≡ some v)). one j k u v s.1 t.1 pu pv) (at_set l i k w v kv))
     (at_set l i j w u ju)
 
 -- the same where the view that stood at i had it too
-pub One-kept : (P : View → Type 0) (l : List View) (i : ℕ) (v w : View) → get_elem? l i ≡ some v → (P w → P v) → One P l → One P (set l i w)
-One-kept P l i v w at back one = One-set P l i w one (λ j u other there pu pw. other (one j i u v there at pu (back pw)))
+pub One-kept : (P : View → Type 0) (l : List View) (i : ℕ) (v w : View) → get_elem? l i ≡ some v → (P w → P v)
+    → One P l → One P (set l i w)
+One-kept P l i v w at back one =
+    One-set P l i w one (λ j u other there pu pw. other (one j i u v there at pu (back pw)))
 
-at_end : (l : List View) (a b : View) (j : ℕ) → get_elem? (l ++ a ∷ []) j ≡ some b → (get_elem? l j ≡ some b) ⊎ ((j ≡ length l) × (a ≡ b))
+at_end : (l : List View) (a b : View) (j : ℕ) → get_elem? (l ++ a ∷ []) j ≡ some b → (get_elem? l j ≡ some b)
+    ⊎ ((j ≡ length l) × (a ≡ b))
 at_end [] a b zero e = inr (refl, some-injective a b e)
 at_end [] a b (suc j) e = absurd (some-ne-none b (sym e))
 at_end (x ∷ xs) a b zero e = inl e
-at_end (x ∷ xs) a b (suc j) e = ⊎_elim (λ (t : get_elem? xs j ≡ some b). inl t) (λ (t : (j ≡ length xs) × (a ≡ b)). inr (ap suc t.0, t.1)) (at_end xs a b j e)
+at_end (x ∷ xs) a b (suc j) e =
+    ⊎_elim (λ (t : get_elem? xs j ≡ some b). inl t) (λ (t : (j ≡ length xs) × (a ≡ b)). inr (ap suc t.0, t.1))
+    (at_end xs a b j e)
 
-pub snoc_each : (P : View → Type 0) (l : List View) (w : View) → P w → ((j : ℕ) (u : View) → get_elem? l j ≡ some u → P u) → (j : ℕ) (u : View) → get_elem? (l ++ w ∷ []) j ≡ some u → P u
-snoc_each P l w mine others j u e = ⊎_elim (λ (t : get_elem? l j ≡ some u). others j u t) (λ (t : (j ≡ length l) × (w ≡ u)). subst P t.1 mine) (at_end l w u j e)
+pub snoc_each : (P : View → Type 0) (l : List View) (w : View) → P w
+    → ((j : ℕ) (u : View) → get_elem? l j ≡ some u → P u) → (j : ℕ) (u : View) → get_elem? (l ++ w ∷ []) j ≡ some u
+    → P u
+snoc_each P l w mine others j u e =
+    ⊎_elim (λ (t : get_elem? l j ≡ some u). others j u t) (λ (t : (j ≡ length l) × (w ≡ u)). subst P t.1 mine)
+    (at_end l w u j e)
 
-pub One-snoc : (P : View → Type 0) (l : List View) (w : View) → One P l → ((j : ℕ) (u : View) → get_elem? l j ≡ some u → P u → P w → ⊥) → One P (l ++ w ∷ [])
+pub One-snoc : (P : View → Type 0) (l : List View) (w : View) → One P l
+    → ((j : ℕ) (u : View) → get_elem? l j ≡ some u → P u → P w → ⊥) → One P (l ++ w ∷ [])
 One-snoc P l w one apart j k u v ju kv pu pv =
-    ⊎_elim (λ (s : get_elem? l j ≡ some u). ⊎_elim (λ (t : get_elem? l k ≡ some v). one j k u v s t pu pv) (λ (t : (k ≡ length l) × (w ≡ v)). absurd (apart j u s pu (subst P (sym t.1) pv))) (at_end l w v k kv))
-    (λ (s : (j ≡ length l) × (w ≡ u)). ⊎_elim (λ (t : get_elem? l k ≡ some v). absurd (apart k v t pv (subst P (sym s.1) pu))) (λ (t : (k ≡ length l) × (w ≡ v)). s.0 ∙ sym t.0) (at_end l w v k kv))
+    ⊎_elim (λ (s : get_elem? l j ≡ some u). ⊎_elim (λ (t : get_elem? l k ≡ some v). one j k u v s t pu pv)
+    (λ (t : (k ≡ length l) × (w ≡ v)). absurd (apart j u s pu (subst P (sym t.1) pv))) (at_end l w v k kv))
+    (λ (s : (j ≡ length l) × (w ≡ u)). ⊎_elim
+    (λ (t : get_elem? l k ≡ some v). absurd (apart k v t pv (subst P (sym s.1) pu)))
+    (λ (t : (k ≡ length l) × (w ≡ v)). s.0 ∙ sym t.0) (at_end l w v k kv))
     (at_end l w u j ju)
 
 pub NoneOf-shorter : (test : Stage → Bool) (l : List View) (w : View) → NoneOf test (l ++ w ∷ []) → NoneOf test l

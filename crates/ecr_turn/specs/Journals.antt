@@ -13,7 +13,8 @@ IsLonger P before after = (news : List Line) × (after ≡ before ++ news) × Ea
 
 -- the second journal is the first one, or longer by one entry of this ticket and caller
 abbrev pub MayFollow : ℕ → ℕ → List Line → List Line → Type 0
-MayFollow ticket caller before after = (after ≡ before) ⊎ ((l : Line) × (after ≡ before ++ l ∷ []) × (l.ticket ≡ ticket) × (l.caller ≡ caller))
+MayFollow ticket caller before after = (after ≡ before)
+    ⊎ ((l : Line) × (after ≡ before ++ l ∷ []) × (l.ticket ≡ ticket) × (l.caller ≡ caller))
 
 -- the longer of two journals of which one is a beginning of the other
 abbrev pub longer_of : List Line → List Line → List Line

@@ -38,15 +38,31 @@ IsAsWise p q = (q.gate ≡ p.gate) × (q.past ≡ p.past) × (q.seen ≡ p.seen)
 
 -- a pass is split: the number of the new one is none that the pass knew to be given out, and afterwards both know that it is
 abbrev pub IsNewCaller : Known → Known → Known → Type 0
-IsNewCaller before after new = (before.callers ≤ new.caller) × (new.callers ≡ new.caller + 1) × (after.callers ≡ new.caller + 1)
+IsNewCaller before after new = (before.callers ≤ new.caller) × (new.callers ≡ new.caller + 1)
+    × (after.callers ≡ new.caller + 1)
 
 -- a frame of nothing
 abbrev pub no_frame : Frame
-no_frame = record { cell = Directory (record { region = []; account = [] }); served = []; limits = record { names = 0; images = 0; tags = 0; parts = 0; bytes = 0 } }
+no_frame = record {
+  cell = Directory (record { region = []; account = [] });
+  served = [];
+  limits = record { names = 0; images = 0; tags = 0; parts = 0; bytes = 0 };
+}
 
 -- the knowledge that is looked up where there is no pass
 abbrev pub unknown : Known
-unknown = first_pass record { table = record { words = 0; slots = 0; views_name = 0; atom = 0; block = 0; offset = 0; slot_names = [] }; frame = no_frame }
+unknown = first_pass record {
+  table = record {
+    words = 0;
+    slots = 0;
+    views_name = 0;
+    atom = 0;
+    block = 0;
+    offset = 0;
+    slot_names = [];
+  };
+  frame = no_frame;
+}
 
 -- the knowledge of the pass in this place
 abbrev pub known_in : Option Known → Known

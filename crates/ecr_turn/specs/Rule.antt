@@ -39,7 +39,8 @@ module _ {B : Type 0} (lines : B → List Line) (frame : B → Frame) (fixed : F
 
   -- the order of turns: the lines of the journal are counted, tickets are served one by one, each ticket that was drawn
   -- and not yet served has one pass, callers' numbers all differ, and outside a turn the state is at home
-  pub record Order (count tickets serving callers : ℕ) (home : maybe.Option (Option B)) (views : List View) : Type 0 where
+  pub record Order (count tickets serving callers : ℕ) (home : maybe.Option (Option B))
+      (views : List View) : Type 0 where
     pub log : List Line
     pub counted : length log ≡ count
     pub begun : serving ≤ tickets

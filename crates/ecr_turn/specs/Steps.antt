@@ -21,23 +21,52 @@ At B = Step (Option B)
 
 -- it waits for the turn of the ticket
 abbrev pub waiting : ℕ → View → View
-waiting t v = record { stage = Waits t; caller = v.caller; callers = v.callers; past = v.past; seen = v.seen; frame = v.frame }
+waiting t v = record {
+  stage = Waits t;
+  caller = v.caller;
+  callers = v.callers;
+  past = v.past;
+  seen = v.seen;
+  frame = v.frame;
+}
 
 -- it is in its turn, and is to look at the journal
 abbrev pub finding : ℕ → List Line → View → View
-finding t log v = record { stage = Found t log; caller = v.caller; callers = v.callers; past = v.past; seen = v.seen; frame = v.frame }
+finding t log v = record {
+  stage = Found t log;
+  caller = v.caller;
+  callers = v.callers;
+  past = v.past;
+  seen = v.seen;
+  frame = v.frame;
+}
 
 -- it is in its turn, and has seen the journal
 abbrev pub holding : ℕ → List Line → View → View
-holding t log v = record { stage = Holds t; caller = v.caller; callers = v.callers; past = v.past; seen = log; frame = v.frame }
+holding t log v = record {
+  stage = Holds t;
+  caller = v.caller;
+  callers = v.callers;
+  past = v.past;
+  seen = log;
+  frame = v.frame;
+}
 
 -- the entry of its turn is counted
 abbrev pub having_recorded : ℕ → List Line → View → View
-having_recorded t log v = record { stage = Recorded t; caller = v.caller; callers = v.callers; past = v.past; seen = log; frame = v.frame }
+having_recorded t log v =
+    record { stage = Recorded t; caller = v.caller; callers = v.callers; past = v.past; seen = log; frame = v.frame }
 
 -- its turn was passed on
 abbrev pub gone_by : ℕ → View → View
-gone_by t v = record { stage = Idle; caller = v.caller; callers = v.callers; past = suc t; seen = v.seen; frame = v.frame }
+gone_by t v = record {
+  stage = Idle;
+  caller = v.caller;
+  callers = v.callers;
+  past = suc t;
+  seen = v.seen;
+  frame = v.frame;
+}
 
 -- the number of the caller that was named
 abbrev pub number_of : Stage → ℕ
@@ -46,19 +75,47 @@ number_of _ = 0
 
 -- it has drawn a number for a caller to come
 abbrev pub naming : ℕ → View → View
-naming n v = record { stage = Named n; caller = v.caller; callers = suc n; past = v.past; seen = v.seen; frame = v.frame }
+naming n v = record {
+  stage = Named n;
+  caller = v.caller;
+  callers = suc n;
+  past = v.past;
+  seen = v.seen;
+  frame = v.frame;
+}
 
 -- it is in no turn
 abbrev pub settled : View → View
-settled v = record { stage = Idle; caller = v.caller; callers = v.callers; past = v.past; seen = v.seen; frame = v.frame }
+settled v = record {
+  stage = Idle;
+  caller = v.caller;
+  callers = v.callers;
+  past = v.past;
+  seen = v.seen;
+  frame = v.frame;
+}
 
 -- the pass of the caller that was named
 abbrev pub newborn : View → View
-newborn v = record { stage = Idle; caller = number_of v.stage; callers = v.callers; past = v.past; seen = v.seen; frame = v.frame }
+newborn v = record {
+  stage = Idle;
+  caller = number_of v.stage;
+  callers = v.callers;
+  past = v.past;
+  seen = v.seen;
+  frame = v.frame;
+}
 
 -- a pass to which another was joined, and which knows of the callers of both
 abbrev pub joining : View → View → View
-joining v w = record { stage = Joined w.past w.seen; caller = v.caller; callers = max v.callers w.callers; past = v.past; seen = v.seen; frame = v.frame }
+joining v w = record {
+  stage = Joined w.past w.seen;
+  caller = v.caller;
+  callers = max v.callers w.callers;
+  past = v.past;
+  seen = v.seen;
+  frame = v.frame;
+}
 
 -- a pass that was joined to another
 abbrev pub spent : View
@@ -66,16 +123,25 @@ spent = record { stage = Spent; caller = 0; callers = 0; past = 0; seen = []; fr
 
 -- the pass with the longer journal and the greater `past` of the two
 abbrev pub merged : View → View
-merged v = record { stage = Idle; caller = v.caller; callers = v.callers; past = max v.past (joined_past v.stage); seen = longer_of v.seen (joined_seen v.stage); frame = v.frame }
+merged v = record {
+  stage = Idle;
+  caller = v.caller;
+  callers = v.callers;
+  past = max v.past (joined_past v.stage);
+  seen = longer_of v.seen (joined_seen v.stage);
+  frame = v.frame;
+}
 
 module _ {B : Type 0} where
   -- the number of a caller to come, whom no entry names, and which the pass didn't know to be given out
   abbrev pub named : At B → Mine B → ℕ → Mine B → Type 0
-  named st m r m' = (r ≡ st.first → (m' ≡ (naming r m.0, m.1)) × (r ≢ m.0.caller) × Each (λ l. l.caller ≢ r) m.0.seen × (m.0.callers ≤ r)) × (r ≢ st.first → m' ≡ m)
+  named st m r m' = (r ≡ st.first → (m' ≡ (naming r m.0, m.1)) × (r ≢ m.0.caller) × Each (λ l. l.caller ≢ r) m.0.seen
+      × (m.0.callers ≤ r)) × (r ≢ st.first → m' ≡ m)
 
   -- the joined pass is taken in: the longer journal, and the greater `past`
   abbrev pub took_in : At B → Mine B → ℕ → Mine B → Type 0
-  took_in st m r m' = (p : ℕ) (ls : List Line) → m.0.stage ≡ Joined p ls → (m' ≡ (merged m.0, m.1)) × Grows m.0.caller m.0.past m.0.seen (longer_of m.0.seen ls) × Follows p ls (longer_of m.0.seen ls)
+  took_in st m r m' = (p : ℕ) (ls : List Line) → m.0.stage ≡ Joined p ls → (m' ≡ (merged m.0, m.1))
+      × Grows m.0.caller m.0.past m.0.seen (longer_of m.0.seen ls) × Follows p ls (longer_of m.0.seen ls)
 
   -- the ticket is drawn where the word was as expected
   abbrev pub drew : At B → Mine B → ℕ → Mine B → Type 0
@@ -88,11 +154,13 @@ module _ {B : Type 0} where
 
   -- the journal of the state that was found is seen
   abbrev pub learned : At B → Mine B → ℕ → Mine B → Type 0
-  learned st m r m' = (t : ℕ) (ls : List Line) → m.0.stage ≡ Found t ls → (m' ≡ (holding t ls m.0, m.1)) × (m.0.past ≤ t) × Grows m.0.caller m.0.past m.0.seen ls × Rises 0 ls t
+  learned st m r m' = (t : ℕ) (ls : List Line) → m.0.stage ≡ Found t ls → (m' ≡ (holding t ls m.0, m.1))
+      × (m.0.past ≤ t) × Grows m.0.caller m.0.past m.0.seen ls × Rises 0 ls t
 
   -- the entry is counted, and the journal seen
   abbrev pub recorded : (B → List Line) → At B → Mine B → ℕ → Mine B → Type 0
-  recorded lines st m r m' = (t : ℕ) (b : B) → m.0.stage ≡ Holds t → m.1 ≡ (0, Some b) ∷ [] → m' ≡ (having_recorded t (lines b) m.0, m.1)
+  recorded lines st m r m' = (t : ℕ) (b : B) → m.0.stage ≡ Holds t → m.1 ≡ (0, Some b) ∷ []
+      → m' ≡ (having_recorded t (lines b) m.0, m.1)
 
   -- the turn is given to the next ticket
   abbrev pub passed_on : At B → Mine B → ℕ → Mine B → Type 0

@@ -139,14 +139,16 @@ pub record ServesInOrder (n : Numbers) (passes : List View) : Type 0 where
 -- 2: of two journals that passes have seen one is a beginning of the other, and the longest has as many entries as are counted
 pub record HasOneJournal (n : Numbers) (passes : List View) (journal : List Line) : Type 0 where
   pub beginnings : Every (λ v. is_live v.stage ≡ true → IsBeginning v.seen journal) passes
-  pub ordered : Every (λ v. is_live v.stage ≡ true → Every (λ w. is_live w.stage ≡ true → IsBeginning v.seen w.seen ⊎ IsBeginning w.seen v.seen) passes) passes
+  pub ordered : Every (λ v. is_live v.stage ≡ true
+      → Every (λ w. is_live w.stage ≡ true → IsBeginning v.seen w.seen ⊎ IsBeginning w.seen v.seen) passes) passes
   pub longest : SomeOne (HasSeen journal) passes
   pub counted : length journal ≡ n.entries
 
 -- 3: tickets rise in the journal, and each is below the served one, or it is that one and its pass has recorded it
 pub record TicketsRise (n : Numbers) (passes : List View) (journal : List Line) : Type 0 where
   pub rises : Rises 0 journal (suc n.serving)
-  pub recorded : Each (λ l. (l.ticket < n.serving) ⊎ ((l.ticket ≡ n.serving) × SomeOne (λ v. (has_recorded v.stage ≡ true) × HasTicket n.serving v) passes)) journal
+  pub recorded : Each (λ l. (l.ticket < n.serving)
+      ⊎ ((l.ticket ≡ n.serving) × SomeOne (λ v. (has_recorded v.stage ≡ true) × HasTicket n.serving v) passes)) journal
 
 -- 4: callers' numbers, and those of callers to come, all differ; no entry has the number of a caller to come; and a pass has seen all entries of its own number, and knows of no more callers than there are
 pub record CallersDiffer (n : Numbers) (passes : List View) (journal : List Line) : Type 0 where
@@ -159,13 +161,15 @@ pub record CallersDiffer (n : Numbers) (passes : List View) (journal : List Line
   pub aware : Every (λ v. v.callers ≤ n.callers) passes
 
 -- 5: a state at home has the whole journal and the frame, and it is away only while a pass is in its turn
-pub record StateIsKept {B : Type 0} (lines : B → List Line) (frame : B → Frame) (fixed : Frame) (home : maybe.Option (Option B)) (passes : List View) (journal : List Line) : Type 0 where
+pub record StateIsKept {B : Type 0} (lines : B → List Line) (frame : B → Frame) (fixed : Frame)
+    (home : maybe.Option (Option B)) (passes : List View) (journal : List Line) : Type 0 where
   pub whole : (b : B) → home ≡ some (Some b) → (lines b ≡ journal) × (frame b ≡ fixed)
   pub away : ((b : B) × (home ≡ some (Some b))) ⊎ SomeOne (λ v. in_turn v.stage ≡ true) passes
 
 -- 6: a pass that is in its turn, and has looked at the journal, has seen the whole of it
 abbrev pub SeesInTurn : Numbers → List View → List Line → Type 0
-SeesInTurn n passes journal = Every (λ v. has_learned v.stage ≡ true → (v.seen ≡ journal) × (length v.seen ≡ n.entries)) passes
+SeesInTurn n passes journal =
+    Every (λ v. has_learned v.stage ≡ true → (v.seen ≡ journal) × (length v.seen ≡ n.entries)) passes
 
 -- 7: the `past` of a pass isn't above the served ticket, and the pass has seen every entry below it
 pub record SeesThePast (n : Numbers) (passes : List View) (journal : List Line) : Type 0 where
@@ -173,7 +177,8 @@ pub record SeesThePast (n : Numbers) (passes : List View) (journal : List Line) 
   pub seen : Every (λ v. is_live v.stage ≡ true → IsLonger (λ l. v.past ≤ l.ticket) v.seen journal) passes
 
 -- the seven points
-pub record SevenPoints {B : Type 0} (lines : B → List Line) (frame : B → Frame) (fixed : Frame) (n : Numbers) (home : maybe.Option (Option B)) (passes : List View) (journal : List Line) : Type 0 where
+pub record SevenPoints {B : Type 0} (lines : B → List Line) (frame : B → Frame) (fixed : Frame) (n : Numbers)
+    (home : maybe.Option (Option B)) (passes : List View) (journal : List Line) : Type 0 where
   pub first : ServesInOrder n passes
   pub second : HasOneJournal n passes journal
   pub third : TicketsRise n passes journal

@@ -10,7 +10,10 @@ use crate::turnstile::Turn;
 impl<'a, S: Journal> Turn<'a, S> {
     /// The state, to be changed. [`Turn::leave`] says which changes a turn may end with.
     pub fn change(&mut self) -> &mut S
-        ensures* writes_back { sem 𝓛 (Lends (the_row (record { mir = named 1; lft = [] }) S.row (record { lines = S.lines; frame = S.frame })) S.row self.entry result (λ w. record self.entry.now { state = w })) }
+        ensures* writes_back { sem 𝓛
+            (Lends (the_row (record { mir = named 1; lft = [] }) S.row
+            (record { lines = S.lines; frame = S.frame })) S.row self.entry result
+            (λ w. record self.entry.now { state = w })) }
         ensures value { result.now ≡ self.old.state }
     {
         &mut self.state

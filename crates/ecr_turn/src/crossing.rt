@@ -14,6 +14,8 @@ pub fn turns_cross_threads<S: Journal + Send + Sync>()
     ensures turnstiles_shared { IsSync (turnstile S.row (record { lines = S.lines; frame = S.frame })) }
     ensures passes_sent { IsSend (pass S.row (record { lines = S.lines; frame = S.frame })) }
     ensures passes_shared { IsSync (pass S.row (record { lines = S.lines; frame = S.frame })) }
-    ensures turns_sent { IsSend (turn (record { mir = named 1; lft = [] }) S.row (record { lines = S.lines; frame = S.frame })) }
-    ensures turns_shared { IsSync (turn (record { mir = named 1; lft = [] }) S.row (record { lines = S.lines; frame = S.frame })) }
+    ensures turns_sent { IsSend
+        (turn (record { mir = named 1; lft = [] }) S.row (record { lines = S.lines; frame = S.frame })) }
+    ensures turns_shared { IsSync
+        (turn (record { mir = named 1; lft = [] }) S.row (record { lines = S.lines; frame = S.frame })) }
 {}

@@ -101,7 +101,8 @@ pub(crate) fn get<R: Wait>(
     ensures fresh { (pass.past ≤ result.1) × (result.2.past ≡ result.1 + 1) }
     ensures grows { Grows pass.caller pass.past pass.seen result.2.seen }
     ensures value { result.0 ≡ value_of (below result.1 result.2.seen) }
-    ensures stays { (after : List SpecLine) → Follows result.2.past result.2.seen after → result.0 ≡ value_of (below result.1 after) }
+    ensures stays { (after : List SpecLine) → Follows result.2.past result.2.seen after
+        → result.0 ≡ value_of (below result.1 after) }
 {
     let turn = turnstile.enter(rt, pass);
     let ticket = turn.ticket();

@@ -124,7 +124,8 @@ pub(crate) fn take<S: Journal, R: Wait>(
 fn name<S: Journal, R: Wait>(board: &Board<S>, rt: &R, seat: &mut Place<S>) -> u64
     requires of { IsOf board.now.shared.table_id seat.old }
     requires idle { seat.old.me.0.stage ≡ Idle }
-    ensures pass { (seat.new.table_id ≡ seat.old.table_id) × (seat.new.me ≡ (naming result seat.old.me.0, seat.old.me.1)) }
+    ensures pass { (seat.new.table_id ≡ seat.old.table_id)
+        × (seat.new.me ≡ (naming result seat.old.me.0, seat.old.me.1)) }
     ensures new { (result ≢ seat.old.me.0.caller) × Each (λ l. l.caller ≢ result) seat.old.me.0.seen }
     ensures unused { seat.old.me.0.callers ≤ result }
 {
@@ -151,7 +152,8 @@ pub(crate) fn fork<S: Journal, R: Wait>(
     requires of { IsOf board.now.shared.table_id seat.old }
     requires idle { IsIdle seat.old }
     ensures kept { (known_of seat.new ≡ record (known_of seat.old) { callers = result.0 + 1 }) × IsIdle seat.new }
-    ensures given { (known_of result.1 ≡ record (known_of seat.old) { caller = result.0; callers = result.0 + 1 }) × IsIdle result.1 }
+    ensures given { (known_of result.1 ≡ record (known_of seat.old) { caller = result.0; callers = result.0 + 1 })
+        × IsIdle result.1 }
     ensures new { (result.0 ≢ seat.old.me.0.caller) × Each (λ l. l.caller ≢ result.0) seat.old.me.0.seen }
     ensures unused { seat.old.me.0.callers ≤ result.0 }
 {

@@ -84,7 +84,8 @@ abbrev pub described : Option (List ℕ) → Option Digest → Option ℕ → Op
 described None digest size = None
 described (Some media) None size = None
 described (Some media) (Some digest) None = None
-described (Some media) (Some digest) (Some size) = Some (record { digest = digest; size = size; foreign = is_foreign media })
+described (Some media) (Some digest) (Some size) =
+    Some (record { digest = digest; size = size; foreign = is_foreign media })
 
 -- the descriptor that the value is
 unfoldable pub descriptor_of : Data → Option Descriptor
@@ -210,7 +211,13 @@ abbrev pub facts_of : Bool → List ℕ → List Descriptor → Facts
 facts_of true media blobs =
     record { list = true; media = media; required = []; children = each_once (map (λ d. d.digest) blobs); size = 0 }
 facts_of false media blobs =
-    record { list = false; media = media; required = each_once (stored_digests blobs); children = []; size = size_of false blobs }
+    record {
+      list = false;
+      media = media;
+      required = each_once (stored_digests blobs);
+      children = [];
+      size = size_of false blobs;
+    }
 
 -- ---- the reading
 
@@ -220,8 +227,10 @@ answer (Some fault) facts = Err fault
 answer None facts = Ok facts
 
 -- of the type and what the manifest names
-unfoldable pub judged : Bool → List ℕ → Option Descriptor → Option (List (Option Descriptor)) → Result Facts ManifestFault
-judged list media config entries = answer (blobs_fault list config entries) (facts_of list media (named config entries))
+unfoldable pub judged : Bool → List ℕ → Option Descriptor → Option (List (Option Descriptor))
+    → Result Facts ManifestFault
+judged list media config entries =
+    answer (blobs_fault list config entries) (facts_of list media (named config entries))
 
 -- of the manifest, where nothing is wrong with it itself
 abbrev pub unless : Option ManifestFault → Result Facts ManifestFault → Result Facts ManifestFault

@@ -110,7 +110,8 @@ prefix_list selection = option_and_then as_array (get (codes "tagPrefixList") se
 
 -- `tagged` has a list of prefixes, and the other statuses have none
 abbrev pub has_its_prefixes : Data → Bool
-has_its_prefixes selection = if selects_tagged selection then option_map_or is_prefix_list (prefix_list selection) false
+has_its_prefixes selection =
+    if selects_tagged selection then option_map_or is_prefix_list (prefix_list selection) false
     else not (has (codes "tagPrefixList") selection)
 
 -- `countType` is `sinceImagePushed`
@@ -244,7 +245,8 @@ clash all earlier r = first_of (
 -- the fault of the first rule that doesn't go with the others
 abbrev pub clashes_from : ℕ → List Rule → List Rule → List Rule → Option PolicyFault
 clashes_from n all earlier [] = None
-clashes_from n all earlier (r ∷ rs) = or_later n (clash all earlier r) (clashes_from (suc n) all (earlier ++ r ∷ []) rs)
+clashes_from n all earlier (r ∷ rs) =
+    or_later n (clash all earlier r) (clashes_from (suc n) all (earlier ++ r ∷ []) rs)
 
 -- ---- the policy
 

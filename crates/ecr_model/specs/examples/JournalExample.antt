@@ -21,7 +21,10 @@ use Rattle.ecr_model.specs.registry.Steps.{Turn, after_line, repository_at, repl
 
 -- `team/app` at `us-east-1/111122223333`
 abbrev pub app : RepoKey
-app = record { site = record { region = codes "us-east-1"; account = codes "111122223333" }; name = record { text = codes "team/app" } }
+app = record {
+  site = record { region = codes "us-east-1"; account = codes "111122223333" };
+  name = record { text = codes "team/app" };
+}
 
 -- a turn at that ticket, at the moment 1700000000 and so many seconds
 abbrev pub turn : ℕ → ℕ → Turn
@@ -41,7 +44,8 @@ reply ticket call = reply_at app standard history (turn ticket 1700000009) call
 
 -- the reply shows `team/app` as created then, in seconds
 abbrev pub row : ℕ → Reply → Type 0
-row created described = described ≡ replies.Described (record { name = app.name; created = created; mutability = Mutable } ∷ []) None
+row created described = described ≡ replies.Described
+    (record { name = app.name; created = created; mutability = Mutable } ∷ []) None
 
 -- the answers at each ticket: the repository isn't there before it is created and after it is deleted, is shown as it
 -- was when it is deleted, and has its second moment afterwards
@@ -65,7 +69,8 @@ pub record LinesStandBetween : Type 0 where
   pub are : between 1 6 history ≡ middle
   pub none : between 2 5 history ≡ []
   pub all : between 0 7 history ≡ history
-  pub lead_on : repository_at app standard history 6 ≡ journals.replay (after_line app standard) (repository_at app standard history 1) middle
+  pub lead_on : repository_at app standard history 6 ≡ journals.replay (after_line app standard)
+      (repository_at app standard history 1) middle
 
 -- the name with that text
 abbrev pub name : List ℕ → Name
@@ -82,9 +87,11 @@ registrations = directories.line_of 0 0 (name (codes "b1")) ∷ directories.line
 -- the names stand in the order of their bytes, whatever was first; a third one is refused, a known one isn't
 pub record NamesAreInOrder : Type 0 where
   pub ordered : (directories.replay two registrations).names ≡ name (codes "a1") ∷ name (codes "b1") ∷ []
-  pub first_page : directories.site_step two (directories.replay two registrations) (site_calls.Names (record { from = 0; max = 1 }))
+  pub first_page : directories.site_step two (directories.replay two registrations)
+      (site_calls.Names (record { from = 0; max = 1 }))
       ≡ record { reply = site_replies.Names (name (codes "a1") ∷ []) true; act = None }
-  pub last_page : directories.site_step two (directories.replay two registrations) (site_calls.Names (record { from = 1; max = 1 }))
+  pub last_page : directories.site_step two (directories.replay two registrations)
+      (site_calls.Names (record { from = 1; max = 1 }))
       ≡ record { reply = site_replies.Names (name (codes "b1") ∷ []) false; act = None }
   pub full : directories.registration two (directories.replay two registrations) (name (codes "c1")) ≡ Full 2 2
   pub known : directories.registration two (directories.replay two registrations) (name (codes "b1")) ≡ Known

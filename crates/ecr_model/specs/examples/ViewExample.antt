@@ -81,6 +81,7 @@ pub record ACallIsVisited : Type 0 where
   pub visited : Visits terms unvisited after create turns created
   pub stays : answer_at realm (journals_of later) create turns ≡ Some created
   pub entered : entered_in realm (journals_of later) (Repository app) 2 create turns ≡ creation ∷ []
-  pub earlier : answer_at realm (journals_of later) create (at (Directory app.site) 2 false ∷ at (Repository app) 3 false ∷ [])
+  pub earlier : answer_at realm (journals_of later) create
+      (at (Directory app.site) 2 false ∷ at (Repository app) 3 false ∷ [])
       ≡ Some (plain (Refused RepositoryAlreadyExists))
   pub too_few : answer_at realm (journals_of later) create (at (Directory app.site) 2 false ∷ []) ≡ None

@@ -24,7 +24,8 @@ line_size bytes = position_or_len is_lf bytes
 -- the place of the first LF, if a chunk's line that ends there is within the limit
 abbrev pub line_end : List ℕ → Option ℕ
 line_end bytes =
-    if nat_lt (line_size bytes) (length bytes) && nat_lt (line_size bytes) max_chunk_line then Some (line_size bytes) else None
+    if nat_lt (line_size bytes) (length bytes) && nat_lt (line_size bytes) max_chunk_line then Some
+    (line_size bytes) else None
 
 -- the line is one of a chunk of that chunk-size, or of no chunk
 abbrev pub Says : List ℕ → Option ℕ → Type 0
@@ -71,7 +72,8 @@ IsSaid limit so_far bytes n (Some (suc k)) part =
 
 -- that front, by the place where the line ends
 abbrev pub IsLined : ℕ → ℕ → List ℕ → Option ℕ → Option ℕ → Part → Type 0
-IsLined limit so_far bytes None size part = part ≡ lacking (if nat_lt (length bytes) max_chunk_line then open_ else bad)
+IsLined limit so_far bytes None size part =
+    part ≡ lacking (if nat_lt (length bytes) max_chunk_line then open_ else bad)
 IsLined limit so_far bytes (Some n) size part = IsSaid limit so_far bytes n size part
 
 -- the line that ends there says that

@@ -35,7 +35,8 @@ each_is name value fields = list_all (λ f. not (has_name name f) || bytes_eq f.
 
 -- the first field of that name has that value, letter case aside
 abbrev pub first_says : List ℕ → List ℕ → List Field → Bool
-first_says name text fields = option_map_or (λ value. str_eq_ignore_ascii_case value text) (first_value name fields) false
+first_says name text fields =
+    option_map_or (λ value. str_eq_ignore_ascii_case value text) (first_value name fields) false
 
 -- a comma, which stands between the words of a list (RFC 9110, section 5.6.1)
 abbrev pub is_comma : ℕ → Bool

@@ -20,7 +20,8 @@ max_head = 65536
 unfoldable pub ends_empty : List ℕ → ℕ → Bool
 ends_empty bytes n =
     nat_lt 1 n && slice_index bytes (n - 1) == 10
-    && (slice_index bytes (n - 2) == 10 || (nat_lt 2 n && slice_index bytes (n - 2) == 13 && slice_index bytes (n - 3) == 10))
+    && (slice_index bytes (n - 2) == 10 ||
+    (nat_lt 2 n && slice_index bytes (n - 2) == 13 && slice_index bytes (n - 3) == 10))
 
 -- so many bytes reach through the first empty line, and are no more than the limit
 pub record IsEnd (limit : ℕ) (bytes : List ℕ) (n : ℕ) : Type 0 where

@@ -17,7 +17,8 @@ is_port text = nat_lt 0 (length text) && list_all is_ascii_digit text
 
 -- the host without its last `:`, where a port stands behind that
 unfoldable pub without_port : List ℕ → List ℕ
-without_port host = if list_any is_colon host && is_port (after_last is_colon host) then before_last is_colon host else host
+without_port host = if list_any is_colon host && is_port
+    (after_last is_colon host) then before_last is_colon host else host
 
 -- `ACCOUNT.dkr.ecr.REGION.amazonaws.com`
 abbrev pub registry_host : SiteId → List ℕ
@@ -42,4 +43,5 @@ first_site (site ∷ sites) = site
 
 -- the site that a request is for, of those that are served: the one that its Host names, or else the first
 unfoldable pub site_for : List SiteId → Option (List ℕ) → SiteId
-site_for sites host = unwrap_or (option_and_then (λ value. named_site sites (without_port value)) host) (first_site sites)
+site_for sites host = unwrap_or (option_and_then (λ value. named_site sites (without_port value)) host)
+    (first_site sites)

@@ -42,7 +42,8 @@ head_part r = record { method = r.method; target = r.target; minor = r.minor; fi
 -- a body of that length, within the limit
 abbrev pub sized_front : ℕ → List ℕ → ℕ → BodyFront
 sized_front limit bytes size = if nat_le size limit
-    then (if nat_le size (length bytes) then complete (take size bytes) size else lacks open_) else lacks (too_long limit)
+    then (if nat_le size (length bytes) then complete (take size bytes) size else lacks open_) else lacks
+    (too_long limit)
 
 -- the front of the bytes behind a head, within the limit of a body
 abbrev pub IsBody : ℕ → List ℕ → Framing → BodyFront → Type 0
@@ -62,7 +63,8 @@ IsFramed at bytes n head (Some framing) front =
 
 -- that front, by the place where the head ends
 abbrev pub IsHeaded : ℕ → List ℕ → Option ℕ → Option Head → Front → Type 0
-IsHeaded at bytes None head front = front ≡ short false (if nat_lt (length bytes) max_head then open_ else too_long max_head)
+IsHeaded at bytes None head front =
+    front ≡ short false (if nat_lt (length bytes) max_head then open_ else too_long max_head)
 IsHeaded at bytes (Some n) None front = front ≡ short false bad
 IsHeaded at bytes (Some n) (Some head) front = IsFramed at bytes n head (framing_of head) front
 

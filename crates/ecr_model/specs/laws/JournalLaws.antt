@@ -17,7 +17,8 @@ module _ {S : Type 0} (after : S → Line → Option S) (first : S) where
   -- a journal and one line more lead to what the line makes of the state
   abbrev pub ReplayGoesOn : Type 0
   ReplayGoesOn = (lines : List Line) (line : Line)
-      → replay after first (lines ++ line ∷ []) ≡ unwrap_or (after (replay after first lines) line) (replay after first lines)
+      → replay after first (lines ++ line ∷ []) ≡ unwrap_or (after (replay after first lines) line)
+      (replay after first lines)
 
   -- the first lines of a sound journal are one
   abbrev pub AFirstPartIsSound : Type 0
@@ -42,11 +43,13 @@ module _ {S : Type 0} (after : S → Line → Option S) (first : S) where
   -- the lines between two tickets lead from the state as at the one to that as at the other
   abbrev pub TheLinesBetweenLeadOn : Type 0
   TheLinesBetweenLeadOn = (lines : List Line) (ticket later : ℕ) → IsSound after first lines → ticket ≤ later
-      → state_at after first lines later ≡ replay after (state_at after first lines ticket) (between ticket later lines)
+      → state_at after first lines later ≡ replay after (state_at after first lines ticket)
+      (between ticket later lines)
 
 -- a call that is refused changes nothing
 abbrev pub ARefusalChangesNothing : Type 0
-ARefusalChangesNothing = (key : RepoKey) (limits : Limits) (s : Repository) (turn : Turn) (call : Call) (refusal : Refusal)
+ARefusalChangesNothing = (key : RepoKey) (limits : Limits) (s : Repository) (turn : Turn) (call : Call)
+    (refusal : Refusal)
     → (step key limits s turn call).reply ≡ Refused refusal → (step key limits s turn call).after ≡ None
 
 -- ---- of all repositories, and of all directories
@@ -61,19 +64,23 @@ ReplayOfDirectories = (frame : SiteFrame) → ReplayGoesOn (directories.after_li
 
 -- `AFirstPartIsSound`, of each repository
 abbrev pub FirstPartsOfRepositories : Type 0
-FirstPartsOfRepositories = (key : RepoKey) (limits : Limits) → AFirstPartIsSound (steps.after_line key limits) steps.first_state
+FirstPartsOfRepositories = (key : RepoKey) (limits : Limits)
+    → AFirstPartIsSound (steps.after_line key limits) steps.first_state
 
 -- `AFirstPartIsSound`, of each directory
 abbrev pub FirstPartsOfDirectories : Type 0
-FirstPartsOfDirectories = (frame : SiteFrame) → AFirstPartIsSound (directories.after_line frame) directories.first_directory
+FirstPartsOfDirectories = (frame : SiteFrame)
+    → AFirstPartIsSound (directories.after_line frame) directories.first_directory
 
 -- `ASoundJournalGrows`, of each repository
 abbrev pub GrowthOfRepositories : Type 0
-GrowthOfRepositories = (key : RepoKey) (limits : Limits) → ASoundJournalGrows (steps.after_line key limits) steps.first_state
+GrowthOfRepositories = (key : RepoKey) (limits : Limits)
+    → ASoundJournalGrows (steps.after_line key limits) steps.first_state
 
 -- `ASoundJournalGrows`, of each directory
 abbrev pub GrowthOfDirectories : Type 0
-GrowthOfDirectories = (frame : SiteFrame) → ASoundJournalGrows (directories.after_line frame) directories.first_directory
+GrowthOfDirectories = (frame : SiteFrame)
+    → ASoundJournalGrows (directories.after_line frame) directories.first_directory
 
 -- `WhatWasStays`, of each repository
 abbrev pub PastOfRepositories : Type 0
@@ -93,8 +100,10 @@ NowOfDirectories = (frame : SiteFrame) → TheLastIsNow (directories.after_line 
 
 -- `TheLinesBetweenLeadOn`, of each repository
 abbrev pub BetweenOfRepositories : Type 0
-BetweenOfRepositories = (key : RepoKey) (limits : Limits) → TheLinesBetweenLeadOn (steps.after_line key limits) steps.first_state
+BetweenOfRepositories = (key : RepoKey) (limits : Limits)
+    → TheLinesBetweenLeadOn (steps.after_line key limits) steps.first_state
 
 -- `TheLinesBetweenLeadOn`, of each directory
 abbrev pub BetweenOfDirectories : Type 0
-BetweenOfDirectories = (frame : SiteFrame) → TheLinesBetweenLeadOn (directories.after_line frame) directories.first_directory
+BetweenOfDirectories = (frame : SiteFrame)
+    → TheLinesBetweenLeadOn (directories.after_line frame) directories.first_directory

@@ -1,5 +1,5 @@
 -- What holds of each session.
-use Rattle.std.specs.Prelude.{◌≡◌, ℕ, Bool, List, [], ◌∷◌, ◌++◌, length, map, Option, None, Some}
+use Rattle.std.specs.Prelude.{◌≡◌, ℕ, Bool, List, [], ◌∷◌, ◌++◌, length, map, None, Some}
 use Rattle.std.specs.Io.KnownBytes.{Appends}
 use Rattle.ecr_model.specs.declared.http.Request.{Request}
 use Rattle.ecr_model.specs.declared.registry.journal.Place.{Place}
@@ -40,7 +40,8 @@ pub record AreAlike (one other : List Exchange) : Type 0 where
 -- cuts, the journals that are left, and the end, where it isn't one of the machine's
 abbrev pub OutputIsDetermined : Type 0
 OutputIsDetermined =
-    (first last other : Standing) (exchanges others : List Exchange) (read : List ℕ) (over : Bool) (tail end_of_others : Tail)
+    (first last other : Standing) (exchanges others : List Exchange) (read : List ℕ) (over : Bool)
+    (tail end_of_others : Tail)
     → AreServed first exchanges last → AreServed first others other → AreAlike exchanges others
     → Reads read over (requests_of exchanges) tail → Reads read over (requests_of others) end_of_others
     → (requests_of exchanges ≡ requests_of others) × (tail ≡ end_of_others)
@@ -65,7 +66,8 @@ TheInputDecidesTheEnd =
 -- where no moment is fixed, the moments of the exchanges are those that the clock gave meanwhile
 abbrev pub TheClockTellsTheMoments : Type 0
 TheClockTellsTheMoments = (first last : Standing) (exchanges : List Exchange)
-    → AreServed first exchanges last → first.fixed ≡ None → Appends first.told last.told (map (λ e. e.moment) exchanges)
+    → AreServed first exchanges last → first.fixed ≡ None
+    → Appends first.told last.told (map (λ e. e.moment) exchanges)
 
 -- where a moment is fixed, it is that of each exchange
 abbrev pub AFixedMomentIsEach : Type 0
@@ -81,7 +83,8 @@ all_places (places ∷ rest) = places ++ all_places rest
 -- sound journals are sound after a session's requests too
 abbrev pub SessionsKeepJournalsSound : Type 0
 SessionsKeepJournalsSound = (first last : Standing) (exchanges : List Exchange)
-    → AreServed first exchanges last → AreSound first.realm first.world.journals → AreSound last.realm last.world.journals
+    → AreServed first exchanges last → AreSound first.realm first.world.journals
+    → AreSound last.realm last.world.journals
 
 -- over sound journals each place of a session is above all tickets that stood in its cell before the session, and the
 -- tickets of one cell don't fall

@@ -9,7 +9,8 @@ use Rattle.ecr_model.specs.registry.Views.{View, Views, seen_of, past_of, caller
 
 -- a turn at a ticket up to `past` comes to the same over each journal that is seen later
 abbrev pub WhatWasSeenStays : Type 0
-WhatWasSeenStays = (realm : Realm) (cell : CellKey) (ticket : ℕ) (sealed : Option Digest) (ask : Ask) (was now : Option View)
+WhatWasSeenStays = (realm : Realm) (cell : CellKey) (ticket : ℕ) (sealed : Option Digest) (ask : Ask)
+    (was now : Option View)
     → IsAhead was now → ticket ≤ past_of was
     → turn_at realm cell (seen_of now) ticket sealed ask ≡ turn_at realm cell (seen_of was) ticket sealed ask
 
@@ -41,7 +42,8 @@ module _ (A : Type 0) where
   abbrev pub OwnLinesAreEntered : Type 0
   OwnLinesAreEntered = (terms : Terms) (was now : Views) (script : Script A) (made : List Made) (answer : A)
       → Visits terms was now script made answer → (cell : CellKey)
-      → own_of (now cell) ≡ own_of (was cell) ++ entered_in terms.realm (journals_of now) cell (caller_of (now cell)) script made
+      → own_of (now cell) ≡ own_of (was cell) ++ entered_in terms.realm (journals_of now) cell
+      (caller_of (now cell)) script made
 
   -- the run of a script by one caller over sound journals makes its turns in views of the whole journals
   abbrev pub RunsVisit : Type 0
@@ -50,7 +52,8 @@ module _ (A : Type 0) where
       (unsealed (run realm world script).places) (run realm world script).answer
 
   -- the views, the turns and the answer are those of the run
-  pub record IsRun (realm : Realm) (world : World) (script : Script A) (now : Views) (made : List Made) (answer : A) : Type 0 where
+  pub record IsRun (realm : Realm) (world : World) (script : Script A) (now : Views) (made : List Made)
+      (answer : A) : Type 0 where
     pub leaves : now ≡ views_of (run realm world script).world.journals
     pub places_are : places_of made ≡ (run realm world script).places
     pub answer_is : answer ≡ (run realm world script).answer
@@ -58,10 +61,12 @@ module _ (A : Type 0) where
   -- a caller that is alone and sees whole journals makes the turns of the run, and sees what the run leaves
   abbrev pub VisitsRun : Type 0
   VisitsRun = (realm : Realm) (world : World) (now : Views) (script : Script A) (made : List Made) (answer : A)
-      → Visits (alone_in realm) (views_of world.journals) now script made answer → IsRun realm world script now made answer
+      → Visits (alone_in realm) (views_of world.journals) now script made answer
+      → IsRun realm world script now made answer
 
   -- the turns are the first of the run, and the views those of the run up to their entries
-  pub record IsFirst (realm : Realm) (world : World) (script : Script A) (now : Views) (made : List Made) : Type 0 where
+  pub record IsFirst (realm : Realm) (world : World) (script : Script A) (now : Views)
+      (made : List Made) : Type 0 where
     pub leaves : now ≡ views_of (run_to (count_changed (places_of made)) realm world script).journals
     pub rest : List Place
     pub places_are : (run realm world script).places ≡ places_of made ++ rest
@@ -82,12 +87,14 @@ module _ (A : Type 0) where
 module _ (A B : Type 0) where
   -- all turns of the one, and then all of the other, are the turns of both
   abbrev pub VisitsThen : Type 0
-  VisitsThen = (terms : Terms) (was mid now : Views) (script : Script A) (next : A → Script B) (made more : List Made) (a : A) (b : B)
+  VisitsThen = (terms : Terms) (was mid now : Views) (script : Script A) (next : A → Script B) (made more : List Made)
+      (a : A) (b : B)
       → Visits terms was mid script made a → Visits terms mid now (next a) more b
       → Visits terms was now (then_do script next) (made ++ more) b
 
   -- the turns are all those of the one, and then all those of the other after its answer
-  pub record AreParted (terms : Terms) (was now : Views) (script : Script A) (next : A → Script B) (made : List Made) (b : B) : Type 0 where
+  pub record AreParted (terms : Terms) (was now : Views) (script : Script A) (next : A → Script B) (made : List Made)
+      (b : B) : Type 0 where
     pub mid : Views
     pub first : List Made
     pub second : List Made
@@ -108,6 +115,7 @@ module _ (A B : Type 0) where
 
   -- so are all turns of the one, and then the first turns of the other
   abbrev pub HaltsThen : Type 0
-  HaltsThen = (terms : Terms) (was mid now : Views) (script : Script A) (next : A → Script B) (made more : List Made) (a : A)
+  HaltsThen = (terms : Terms) (was mid now : Views) (script : Script A) (next : A → Script B) (made more : List Made)
+      (a : A)
       → Visits terms was mid script made a → Halts terms mid now (next a) more
       → Halts terms was now (then_do script next) (made ++ more)

@@ -24,7 +24,8 @@ pub data IsJoint : List ℕ → Type 0 where
 -- a word, or words with a joint between each two
 pub data IsJoined : List ℕ → Type 0 where
   alone : {word : List ℕ} → IsWord word → IsJoined word
-  joined : {word joint rest : List ℕ} → IsWord word → IsJoint joint → IsJoined rest → IsJoined (word ++ (joint ++ rest))
+  joined : {word joint rest : List ℕ} → IsWord word → IsJoint joint → IsJoined rest
+      → IsJoined (word ++ (joint ++ rest))
 
 -- `<name>`, of 2 to 256 bytes
 pub record IsName (text : List ℕ) : Type 0 where

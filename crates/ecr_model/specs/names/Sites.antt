@@ -65,7 +65,8 @@ account_of word = drop (length word - 12) word
 
 -- whether the word is a region, a `/` and an account
 unfoldable pub is_site_word : List ℕ → Bool
-is_site_word word = is_region (region_of word) && slice_index word (length word - 13) == 47 && is_account (account_of word)
+is_site_word word = is_region (region_of word) && slice_index word (length word - 13) == 47 && is_account
+    (account_of word)
 
 -- the site as which the word reads, or none
 unfoldable pub site_of : List ℕ → Option SiteId

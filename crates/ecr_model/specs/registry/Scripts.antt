@@ -1,6 +1,6 @@
 -- Scripts: the turns of a request in its cells, one after another, each of which tells something, and then an answer. Of
 -- this registry: docs/DECISIONS.md, "Scripts". Tickets count from 0; moments are in seconds.
-use Rattle.std.specs.Prelude.{◌≡◌, ℕ, zero, suc, ◌+◌, ◌-◌, Bool, false, List, [], ◌∷◌, ◌++◌, Option, None, Some, is_some, if◌then◌else◌, ◌&&◌, ◌==◌, bytes_eq, option_map}
+use Rattle.std.specs.Prelude.{ℕ, zero, suc, ◌+◌, ◌-◌, Bool, false, List, [], ◌∷◌, ◌++◌, Option, None, Some, is_some, if◌then◌else◌, ◌&&◌, ◌==◌, bytes_eq, option_map}
 use Rattle.std.specs.List.{list_any}
 use Rattle.ecr_model.specs.declared.requests.call.Call.{Call}
 use Rattle.ecr_model.specs.declared.requests.call.SiteCall.{SiteCall}
@@ -224,7 +224,8 @@ unfoldable pub run : {A : Type 0} → Realm → World → Script A → Run A
 run realm world (ends a) = record { world = world; places = []; entries = 0; answer = a }
 run realm world (turn cell ask next) =
     let turned = next_turn realm world cell ask in
-    in_front (place_of cell (next_ticket world cell) turned) (count_of turned.entry) (run realm (entered realm world cell turned.entry) (next turned.told))
+    in_front (place_of cell (next_ticket world cell) turned) (count_of turned.entry)
+    (run realm (entered realm world cell turned.entry) (next turned.told))
 
 -- the world after the turns of a script, up to so many entries
 unfoldable pub run_to : {A : Type 0} → ℕ → Realm → World → Script A → World

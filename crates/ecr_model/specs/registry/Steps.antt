@@ -67,7 +67,8 @@ where_present s decide = option_map_or decide s.present (refuses RepositoryNotFo
 abbrev pub creates : ℕ → Mutability → Repository → Outcome
 creates moment mutability s = if is_some s.present
     then refuses RepositoryAlreadyExists
-    else becomes (record s { present = Some (record { created = moment; mutability = mutability }) }) (Created moment mutability)
+    else becomes (record s { present = Some (record { created = moment; mutability = mutability }) })
+    (Created moment mutability)
 
 -- whether there is an image
 abbrev pub has_images : List Row → Bool
@@ -150,7 +151,12 @@ step key limits s turn (SetMutability mutability) = sets_mutability mutability s
 -- the repository after an act with that ticket and moment, where the act changes it; those of a directory don't
 abbrev pub after_act : RepoKey → Limits → Repository → ℕ → ℕ → Act → Option Repository
 after_act key limits s ticket moment (Called call destinations sealed) =
-    (step key limits s (record { ticket = ticket; moment = moment; destinations = destinations; sealed = sealed }) call).after
+    (step key limits s (record {
+      ticket = ticket;
+      moment = moment;
+      destinations = destinations;
+      sealed = sealed;
+    }) call).after
 after_act key limits s ticket moment (Register name) = None
 
 -- the repository after a line of its journal, where the line changes it

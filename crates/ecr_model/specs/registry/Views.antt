@@ -97,13 +97,15 @@ pub record IsNext (was : Option View) (now : View) (others : List Line) (ticket 
 
 -- a turn in a cell was made at that place: its line, if it has one, stands behind all that came before it. Among callers
 -- its ticket is used up; a caller that is alone uses that of a turn without an entry again
-pub record Visit (terms : Terms) (was : Option View) (now : View) (cell : CellKey) (ask : Ask) (made : Made) : Type 0 where
+pub record Visit (terms : Terms) (was : Option View) (now : View) (cell : CellKey) (ask : Ask)
+    (made : Made) : Type 0 where
   pub cell_is : made.place.cell ≡ cell
   pub changed_is : made.place.changed ≡ is_some (result_of terms.realm cell now.seen ask made).entry
   pub sealed_is : MaySeal ask made.sealed
   pub fresh : past_of was ≤ made.place.ticket
   pub within : made.place.ticket ≤ now.past
-  pub comes : Comes was now (lines_of now.caller made.place.ticket (result_of terms.realm cell now.seen ask made).entry)
+  pub comes : Comes was now
+      (lines_of now.caller made.place.ticket (result_of terms.realm cell now.seen ask made).entry)
   pub rises : Rises 0 now.seen now.past
   pub shared : terms.alone ≡ false → now.past ≡ made.place.ticket + 1
   pub alone : terms.alone ≡ true → IsNext was now comes.others made.place.ticket
@@ -122,7 +124,8 @@ Visits terms was now (turn cell ask next) (m ∷ ms) answer =
 -- no turn was made; a caller among many may have seen more of the cell
 abbrev pub Glances : Terms → Views → CellKey → Views → Type 0
 Glances terms was cell now =
-    (now ≡ was) ⊎ ((terms.alone ≡ false) × ((view : View) × Comes (was cell) view [] × (now ≡ with_view was cell view)))
+    (now ≡ was) ⊎ ((terms.alone ≡ false)
+    × ((view : View) × Comes (was cell) view [] × (now ≡ with_view was cell view)))
 
 -- the first turns of the script were made, and no other
 unfoldable pub Halts : {A : Type 0} → Terms → Views → Views → Script A → List Made → Type 0

@@ -93,7 +93,8 @@ site_in base served values = unwrap_or (option_and_then (site_of base served) (t
 
 -- the repository of `repositoryName`
 abbrev pub key_in : SiteId → List SiteId → List Valued → RepoKey
-key_in base served values = record { site = site_in base served values; name = record { text = unwrap_or (text_at RepositoryName values) [] } }
+key_in base served values =
+    record { site = site_in base served values; name = record { text = unwrap_or (text_at RepositoryName values) [] } }
 
 -- `imageTagMutability`, where it is there; else tags may move
 abbrev pub mutability_in : List Valued → Mutability
@@ -105,7 +106,8 @@ force_in values = unwrap_or (truth_in (value_at Force values)) false
 
 -- the names of `repositoryNames`, where it is there
 abbrev pub names_in : List Valued → Option (List Name)
-names_in values = option_map (λ texts. map (λ text. record { text = text }) texts) (texts_in (value_at RepositoryNames values))
+names_in values = option_map (λ texts. map (λ text. record { text = text }) texts)
+    (texts_in (value_at RepositoryNames values))
 
 -- the page from `nextToken` on of `maxResults` rows, where they are there; else the first page, of 100 rows
 abbrev pub page_in : List Valued → Page
@@ -119,14 +121,14 @@ pub data Made : Type 0 where
   one : Call → Made
   several : Made
 
--- what the values of an action's members make
+-- the call on a repository that the values make for an action, or the description of several
 unfoldable pub made_in : Action → List Valued → Made
 made_in CreateRepository values = one (Create (mutability_in values))
 made_in DeleteRepository values = one (Delete (force_in values))
 made_in DescribeRepositories values = several
 made_in PutImageTagMutability values = one (SetMutability (mutability_in values))
 
--- what is asked with it
+-- the call with its repository, or with the names and the page that are described
 abbrev pub asked_in : SiteId → List SiteId → List Valued → Made → Asked
 asked_in base served values (one call) = cell (key_in base served values) call None
 asked_in base served values several = many (site_in base served values) (names_in values) (page_in values)
@@ -140,9 +142,10 @@ abbrev pub unless_bad : Option Parameter → Reading → Reading
 unless_bad None reading = reading
 unless_bad (Some parameter) reading = refuses (InvalidParameter parameter)
 
--- what the values ask of an action
+-- the call that the values make, or the first member that is bad
 unfoldable pub values_reading : SiteId → List SiteId → Action → List Valued → Reading
-values_reading base served action values = unless_bad (first_bad base served values) (made_by base served action values)
+values_reading base served action values =
+    unless_bad (first_bad base served values) (made_by base served action values)
 
 -- the reading of a JSON value for an action
 unfoldable pub typed_reading : SiteId → List SiteId → Action → Data → Reading

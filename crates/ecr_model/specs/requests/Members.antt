@@ -61,7 +61,8 @@ typed domains.Token value = option_map text (as_str value)
 
 -- the member's value in the body; none where it has another type
 abbrev pub typed_member : Data → Member → Option Typed
-typed_member body member = option_map_or (typed member.domain) (member_at (parameter_text member.parameter) body) (Some absent)
+typed_member body member =
+    option_map_or (typed member.domain) (member_at (parameter_text member.parameter) body) (Some absent)
 
 -- a member with its name and its value
 pub record Valued : Type 0 where
@@ -77,7 +78,8 @@ valued member value = record { name = parameter_text member.parameter; member = 
 abbrev pub all_typed : List Member → Data → Option (List Valued)
 all_typed [] body = Some []
 all_typed (member ∷ members) body =
-    option_and_then (λ value. option_map (λ values. valued member value ∷ values) (all_typed members body)) (typed_member body member)
+    option_and_then (λ value. option_map (λ values. valued member value ∷ values) (all_typed members body))
+    (typed_member body member)
 
 -- the values of the members; none where the body is no object, or a member has another type
 unfoldable pub typed_members : List Member → Data → Option (List Valued)
@@ -130,7 +132,8 @@ is_decimal (c ∷ rest) = list_all is_digit (c ∷ rest) && (not (c == 48) || le
 
 -- the place that a decimal below 2^63 is
 unfoldable pub place_of : List ℕ → Option ℕ
-place_of digits = if is_decimal digits && nat_lt (digits_value digits) (2 ^ 63) then Some (digits_value digits) else None
+place_of digits = if is_decimal digits && nat_lt (digits_value digits) (2 ^ 63) then Some
+    (digits_value digits) else None
 
 -- the served site of the same region with that account
 unfoldable pub site_of : SiteId → List SiteId → List ℕ → Option SiteId

@@ -39,8 +39,10 @@ parameter_text parameters.ImageId = codes "imageId"
 parameter_text parameters.Filter = codes "filter"
 parameter_text parameters.LifecyclePolicyText = codes "lifecyclePolicyText"
 parameter_text parameters.ReplicationConfiguration = codes "replicationConfiguration"
-parameter_text (parameters.Manifest fault) = codes "imageManifest cause " ++ decimal fault.cause ++ codes " entry " ++ decimal fault.entry
-parameter_text (parameters.Policy fault) = codes "lifecyclePolicyText rule " ++ decimal fault.rule ++ codes " cause " ++ decimal fault.cause
+parameter_text (parameters.Manifest fault) =
+    codes "imageManifest cause " ++ decimal fault.cause ++ codes " entry " ++ decimal fault.entry
+parameter_text (parameters.Policy fault) =
+    codes "lifecyclePolicyText rule " ++ decimal fault.rule ++ codes " cause " ++ decimal fault.cause
 
 -- the fault of a replication configuration, in a word
 abbrev pub fault_text : ConfigurationFault → List ℕ
@@ -130,7 +132,8 @@ part_data refusal received key upload =
 
 -- a refusal as JSON, where the call was one on that repository and that upload
 unfoldable pub refusal_data : Refusal → Option RepoKey → Option ℕ → Data
-refusal_data (InvalidLayerPart received) (Some key) (Some upload) = part_data (InvalidLayerPart received) received key upload
+refusal_data (InvalidLayerPart received) (Some key) (Some upload) =
+    part_data (InvalidLayerPart received) received key upload
 refusal_data refusal key upload = plain_data refusal
 
 -- the body of a refusal

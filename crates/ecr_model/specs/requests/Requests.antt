@@ -18,7 +18,7 @@ use Rattle.ecr_model.specs.declared.requests.reply.Reply.TheVariants.{Described,
 use Rattle.ecr_model.specs.declared.requests.reply.SiteReply.{SiteReply}
 use Rattle.ecr_model.specs.declared.requests.reply.SiteReply.TheVariants as site_replies
 use Rattle.ecr_model.specs.requests.Actions.{Asked, cell, site, many}
-use Rattle.ecr_model.specs.registry.Scripts.{Ask, knows, register, site_call, call, Told, known, registered, listed, replied, nothing, Script, ends, turn, then_do}
+use Rattle.ecr_model.specs.registry.Scripts.{Ask, knows, register, site_call, call, Told, known, registered, listed, replied, Script, ends, turn, then_do}
 use Rattle.ecr_model.specs.registry.Steps.{Beside}
 
 -- the reply to a call, and the digest of all parts with which an upload's completion was decided; none of another call
@@ -115,7 +115,8 @@ next_place page names more = if more then Some (page.from + length names) else N
 
 -- the repositories of the page that the directory told
 abbrev pub page_script : SiteId → ℕ → Page → SiteReply → Script Reply
-page_script s moment page (site_replies.Names names more) = listed_script s moment (next_place page names more) [] names
+page_script s moment page (site_replies.Names names more) =
+    listed_script s moment (next_place page names more) [] names
 page_script s moment page (site_replies.Refused refusal) = ends (Refused refusal)
 
 -- DescribeRepositories: the named ones, or those of a page of the site's names

@@ -56,15 +56,18 @@ SaysUsage before after _ = ⊥
 
 -- the program's session at these sites: nothing is there at first
 abbrev pub fresh_session : List SiteId → Option ℕ → Setting
-fresh_session sites fixed = record { realm = record { served = sites; limits = standard }; first = fresh; fixed = fixed }
+fresh_session sites fixed =
+    record { realm = record { served = sites; limits = standard }; first = fresh; fixed = fixed }
 
 -- a command that serves a session reads, answers and writes as this session does, and ends so; the cuts are those of its
 -- account
-pub record RunsSession (sites : List SiteId) (fixed : Option ℕ) (before after : Outside) (cuts : List Cut) (end : End) : Type 0 where
+pub record RunsSession (sites : List SiteId) (fixed : Option ℕ) (before after : Outside) (cuts : List Cut)
+    (end : End) : Type 0 where
   pub moments : List ℕ
   pub places : List (List Place)
   pub last : World
-  pub serves : Serves (fresh_session sites fixed) before after (record { moments = moments; places = places; cuts = cuts }) last end
+  pub serves : Serves (fresh_session sites fixed) before after
+      (record { moments = moments; places = places; cuts = cuts }) last end
 
 -- the exit status of a command
 abbrev pub status_of : End → ℕ

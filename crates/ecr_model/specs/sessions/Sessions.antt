@@ -1,5 +1,5 @@
 -- A session: its exchanges, all that it writes, and how it ends. Moments are in seconds.
-use Rattle.std.specs.Prelude.{◌≡◌, ℕ, ◌+◌, ◌^◌, ◌<◌, ◌≤◌, ◌⊎◌, Bool, true, false, List, [], ◌∷◌, ◌++◌, length, map, Option, None, Some, if◌then◌else◌}
+use Rattle.std.specs.Prelude.{◌≡◌, ℕ, ◌^◌, ◌<◌, ◌≤◌, ◌⊎◌, Bool, true, false, List, [], ◌∷◌, ◌++◌, length, map, Option, None, Some, if◌then◌else◌}
 use Rattle.std.specs.Io.KnownBytes.{Consumes, Appends, Keeps, IsAtEnd}
 use Rattle.ecr_model.specs.declared.http.Request.{Request}
 use Rattle.ecr_model.specs.declared.registry.journal.Place.{Place}
@@ -30,7 +30,8 @@ outcome_of realm world moment request = run realm world (script_of realm moment 
 -- the reply to a request with the content that it carries, as bytes
 unfoldable pub written : Realm → World → ℕ → Cut → Request → List (List ℕ) → List ℕ
 written realm world moment cut request contents = if cut.failed then failed_reply (is_head request) (closes request)
-    else posed_bytes (posed_of realm.served request) (closes request) (outcome_of realm world moment request).answer.reply contents
+    else posed_bytes (posed_of realm.served request) (closes request)
+    (outcome_of realm world moment request).answer.reply contents
 
 -- the digests that the reply to a request names; the reply of one that failed names none
 abbrev pub named_to : Realm → World → ℕ → Cut → Request → List Digest
@@ -53,7 +54,8 @@ pub record Counts (realm : Realm) (world : World) (moment : ℕ) (request : Requ
 
 -- the places of a request are those of its turns in order; of one that failed, the first of them, and no more of these say
 -- that an entry was added than were
-pub record IsPlaced (realm : Realm) (world : World) (moment : ℕ) (cut : Cut) (request : Request) (places : List Place) : Type 0 where
+pub record IsPlaced (realm : Realm) (world : World) (moment : ℕ) (cut : Cut) (request : Request)
+    (places : List Place) : Type 0 where
   pub all : cut.failed ≡ false → places ≡ (outcome_of realm world moment request).places
   pub first : (rest : List Place) × ((outcome_of realm world moment request).places ≡ places ++ rest)
   pub changed : count_changed places ≤ cut.entries
@@ -212,7 +214,8 @@ IsLast read exchanges point done piece =
 -- of sessions in which each exchange leads from one standing to the next by that relation
 module _ {W : Type 0} (serves : StandingOf W → Exchange → StandingOf W → Type 0) where
   -- the account is that of these exchanges, which led from the first journals to these
-  pub record ServicedBy (set : SettingOf W) (before after : Outside) (exchanges : List Exchange) (account : Account) (last : W) : Type 0 where
+  pub record ServicedBy (set : SettingOf W) (before after : Outside) (exchanges : List Exchange) (account : Account)
+      (last : W) : Type 0 where
     pub says : account ≡ account_of exchanges
     pub served : Chain serves (stands set set.first before.told) exchanges (stands set last after.told)
 
@@ -232,7 +235,8 @@ module _ {W : Type 0} (serves : StandingOf W → Exchange → StandingOf W → T
     pub sent : Appends before.held after.held (sent_to exchanges ++ further)
 
   -- all requests in the bytes that were read were answered, and the end came after them
-  pub record CompletedBy (set : SettingOf W) (before after : Outside) (account : Account) (last : W) (end : End) : Type 0 where
+  pub record CompletedBy (set : SettingOf W) (before after : Outside) (account : Account) (last : W)
+      (end : End) : Type 0 where
     pub read : List ℕ
     pub over : Bool
     pub exchanges : List Exchange

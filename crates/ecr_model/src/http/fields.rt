@@ -86,7 +86,9 @@ fn first_place<'a>(head: &[u8], places: &'a [HeaderSpan], name: &[u8]) -> Option
 
 // Whether each field of the name has the value.
 fn each_place_is(head: &[u8], places: &[HeaderSpan], name: &[u8], value: &[u8]) -> bool
-    ensures { result ≡ list_all (λ p. not (has_name name.now (field_at head.now p)) || bytes_eq (span_bytes head.now p.value) value.now) places.now }
+    ensures { result ≡ list_all
+        (λ p. not (has_name name.now (field_at head.now p)) || bytes_eq
+        (span_bytes head.now p.value) value.now) places.now }
 {
     places
         .iter()
@@ -95,7 +97,8 @@ fn each_place_is(head: &[u8], places: &[HeaderSpan], name: &[u8], value: &[u8]) 
 
 // Whether the field at that place has the value, if it has the name.
 fn has_value(head: &[u8], place: &HeaderSpan, name: &[u8], value: &[u8]) -> bool
-    ensures { result ≡ (not (has_name name.now (field_at head.now place.now)) || bytes_eq (span_bytes head.now place.now.value) value.now) }
+    ensures { result ≡ (not (has_name name.now (field_at head.now place.now)) || bytes_eq
+        (span_bytes head.now place.now.value) value.now) }
 {
     !has_name(head, place, name) || text_at(head, place.value) == value
 }

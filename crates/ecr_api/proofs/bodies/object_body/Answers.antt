@@ -13,4 +13,5 @@ returns c =
     let whole : Data = object (written_data c.args.members.now) in
     let opened : t0 ≡ old ++ token.begin_object ∷ [] = c.in_ok-begin_object.ensures.ok in
     let filled : t1 ≡ t0 ++ member_tokens (written_data c.args.members.now) = c.in_ok-write_members.ensures.ok in
-    c.finish.ensures whole (joined old t0 t1 _ _ opened filled ∙ ap (λ l. l ++ data_tokens whole) c.in_ok-out.ensures.tokens)
+    c.finish.ensures whole (joined old t0 t1 _ _ opened filled
+    ∙ ap (λ l. l ++ data_tokens whole) c.in_ok-out.ensures.tokens)

@@ -19,10 +19,13 @@ returns c =
     let key = key_asked (meaning c.args.asked.now) in
     let repository : Data = repository_data key c.args.created c.args.mutability in
     let pair : SiteId → List ℕ → RepoKey = λ s n. record { site = s; name = record { text = n } } in
-    let same : pair c.site_asked.result.now c.name_asked.result.now ≡ key = ap₂ pair c.site_asked.ensures.of_key c.name_asked.ensures in
+    let same : pair c.site_asked.result.now c.name_asked.result.now ≡ key =
+    ap₂ pair c.site_asked.ensures.of_key c.name_asked.ensures in
     let e0 : t0 ≡ old ++ token.begin_object ∷ [] = c.in_ok-begin_object.ensures.ok in
     let e1 : t1 ≡ t0 ++ token.key (codes "repository") ∷ [] = c.in_ok-key.ensures.ok in
-    let e2 : t2 ≡ t1 ++ data_tokens repository = c.in_ok-write_repository.ensures.ok ∙ ap (λ k. t1 ++ data_tokens (repository_data k c.args.created c.args.mutability)) same in
+    let e2 : t2 ≡ t1 ++ data_tokens repository =
+    c.in_ok-write_repository.ensures.ok
+    ∙ ap (λ k. t1 ++ data_tokens (repository_data k c.args.created c.args.mutability)) same in
     let e3 : t3 ≡ t2 ++ token.end_object ∷ [] = c.in_ok-end_object.ensures.ok in
     let j1 = joined old t0 t1 _ _ e0 e1 in
     let j2 = joined old t1 t2 _ _ j1 e2 in

@@ -11,5 +11,6 @@ unfolding reply_data refusal_body
 returns-in-Refused c =
     let refusal = c.in-Refused.refusal in
     let same : refusal_body refusal None None ≡ compact_text (reply_data (meaning c.args.asked.now) c.args.reply.now) =
-    rw c.in-Refused.is (ap compact_text (sym (refusal_data-no_upload refusal (Some (key_asked (meaning c.args.asked.now)))))) in
+    rw c.in-Refused.is (ap compact_text
+    (sym (refusal_data-no_upload refusal (Some (key_asked (meaning c.args.asked.now)))))) in
     subst (λ (t : List ℕ). IfOk c.refusal_body.result (λ b. b.items ≡ t)) same c.refusal_body.ensures.text

@@ -6,7 +6,8 @@ pub returns-then-not-is_decimal : goal.returns-then-not-is_decimal
 returns-then-not-is_decimal c = sym (place_of-other c.args.text.now cc)
 
 pub returns-in-Ok : goal.returns-in-Ok
-returns-in-Ok c = c.below_places.ensures ∙ sym (place_of-Ok c.args.text.now c.parse.result c.in-Ok.place c.parse.ensures.value.0 c.in-Ok.is cc)
+returns-in-Ok c = c.below_places.ensures
+    ∙ sym (place_of-Ok c.args.text.now c.parse.result c.in-Ok.place c.parse.ensures.value.0 c.in-Ok.is cc)
 
 pub returns-in-Err : goal.returns-in-Err
 returns-in-Err c = sym (place_of-Err c.args.text.now c.parse.result c.in-Err.field-0 c.parse.ensures.value.0 c.in-Err.is cc)

@@ -16,6 +16,8 @@ returns-in_ok-document-in-Some-clause-exact c =
     let action = c.in-Some.action in
     let names = map (λ n. n.now) c.member_names.result.now in
     let kept = option_map view c.in_ok-document-in-Some.document in
-    let same = body_reading-thin base served names action kept (document body) c.member_names.ensures c.in_ok-document-in-Some.ensures in
+    let same = body_reading-thin base served names action kept
+    (document body) c.member_names.ensures c.in_ok-document-in-Some.ensures in
     let named : action_of c.args.target.now ≡ Some action = sym c.action_of.ensures ∙ c.in-Some.is in
-    subst (λ (r : Reading). Reads c.read_body.result r) (same ∙ ap (λ o. action_reading base served o body) (sym named)) c.read_body.ensures.exact
+    subst (λ (r : Reading). Reads c.read_body.result r)
+    (same ∙ ap (λ o. action_reading base served o body) (sym named)) c.read_body.ensures.exact

@@ -11,5 +11,7 @@ use Rattle.ecr_api.proofs.read.read_document.Goals as goal
 pub returns-in-Ok : goal.returns-in-Ok
 returns-in-Ok c =
     let utf8 = c.in-Ok.ensures.cases in
-    let same : read c.in-Ok.text.now ≡ document c.args.body.now = ap read utf8.0 ∙ sym (document-IsUtf8 c.args.body.now utf8.1) in
-    subst (λ (d : Option Data). IfOk c.read_thin.result (λ o. IsThinOf (map (λ n. n.now) c.args.names.now) (option_map view o) d)) same c.read_thin.ensures.exact
+    let same : read c.in-Ok.text.now ≡ document c.args.body.now =
+    ap read utf8.0 ∙ sym (document-IsUtf8 c.args.body.now utf8.1) in
+    subst (λ (d : Option Data). IfOk c.read_thin.result
+    (λ o. IsThinOf (map (λ n. n.now) c.args.names.now) (option_map view o) d)) same c.read_thin.ensures.exact

@@ -11,5 +11,6 @@ pub read_values-requires : goal.read_values-requires
 read_values-requires c =
     let values = c.in-Some.values.items in
     let read = sym c.in_ok-values.ensures ∙ ap (option_map (λ v. row_of v.items)) c.in-Some.is in
-    let apart = typed_members-apart c.members_of.result.now (view c.args.body.now) (row_of values) c.members_of.ensures.named read in
+    let apart = typed_members-apart c.members_of.result.now (view c.args.body.now)
+    (row_of values) c.members_of.ensures.named read in
     subst (λ (vs : List Valued). AreApart (row_of vs)) (sym c.as_slice.ensures.value) apart

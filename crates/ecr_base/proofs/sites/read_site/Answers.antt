@@ -19,11 +19,14 @@ returns-clause-exact c =
     let on : is_site_word c.args.word.now ≡ true = cc in
     let word = c.args.word.now in
     let next : length word - 13 + 1 ≡ length word - 12 = omega (arith, c.if-not-is_site_word.ensures.long) in
-    (site_of-ReadsSite word _).0 (site_of-on word c.in_ok-region.region c.in_ok-account.account on (grind (arith, common_steps)) (grind (arith, common_steps)))
+    (site_of-ReadsSite word _).0
+    (site_of-on word c.in_ok-region.region c.in_ok-account.account on (grind (arith, common_steps))
+    (grind (arith, common_steps)))
 
 pub returns-clause-computed : goal.returns-clause-computed
 returns-clause-computed c =
     let on : is_site_word c.args.word.now ≡ true = cc in
     let word = c.args.word.now in
     let next : length word - 13 + 1 ≡ length word - 12 = omega (arith, c.if-not-is_site_word.ensures.long) in
-    sym (site_of-on word c.in_ok-region.region c.in_ok-account.account on (grind (arith, common_steps)) (grind (arith, common_steps)))
+    sym (site_of-on word c.in_ok-region.region c.in_ok-account.account on (grind (arith, common_steps))
+    (grind (arith, common_steps)))

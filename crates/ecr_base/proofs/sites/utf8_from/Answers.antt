@@ -14,6 +14,7 @@ returns-in-Ok c =
 pub returns-in-Err : goal.returns-in-Err
 returns-in-Err c =
     let e = c.in-Err.ensures in
-    let cut : utf8_valid_len c.as_slice.result.now < length c.as_slice.result.now = omega (arith, e.valid_len, e.cases.1.short) in
+    let cut : utf8_valid_len c.as_slice.result.now < length c.as_slice.result.now =
+    omega (arith, e.valid_len, e.cases.1.short) in
     let short = subst (λ (bytes : List ℕ). utf8_valid_len bytes < length bytes) c.as_slice.ensures.value cut in
     c.new.ensures.bytes ∙ sym (utf8_or_empty-short c.args.bytes.items short)

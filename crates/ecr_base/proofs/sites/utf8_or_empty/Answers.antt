@@ -11,5 +11,6 @@ returns-in-Ok c =
 pub returns-in-Err : goal.returns-in-Err
 returns-in-Err c =
     let e = c.in-Err.ensures in
-    let short : utf8_valid_len c.args.bytes.now < length c.args.bytes.now = omega (arith, e.valid_len, e.cases.1.short) in
+    let short : utf8_valid_len c.args.bytes.now < length c.args.bytes.now =
+    omega (arith, e.valid_len, e.cases.1.short) in
     sym (utf8_or_empty-short c.args.bytes.now short)

@@ -10,7 +10,8 @@ pub make-requires-clause-at : goal.make-requires-clause-at
 make-requires-clause-at c =
     let sites = c.args.cells.now.entries in
     let served = c.requires.served in
-    let found : site_at sites (site_of c.args.cell) ≡ Some c.in-Some.site.now = ap (site_at sites) (sym c.site_of.ensures) ∙ sym c.in-Some.ensures.value in
+    let found : site_at sites (site_of c.args.cell) ≡ Some c.in-Some.site.now =
+    ap (site_at sites) (sym c.site_of.ensures) ∙ sym c.in-Some.ensures.value in
     let same : c.in-Some.site.now ≡ served.kept = cc (found, served.found) in
     ap (λ (s : Site). s.directory.site) same ∙ served.site_is
 
@@ -22,7 +23,8 @@ returns-clause-turned c =
     let news = (c.get_mut.follows.lender after).entries in
     let at = c.site_of.result.now in
     let found : site_at sites at ≡ Some before = sym c.in-Some.ensures.value in
-    let changes : Changes sites news at before after = record { was = found; updates = ((c.get_mut.follows.holds after).3 (ap is_some found)).0 } in
+    let changes : Changes sites news at before after =
+    record { was = found; updates = ((c.get_mut.follows.holds after).3 (ap is_some found)).0 } in
     IfOk-weaker c.make.result
     (λ t. IsTurn before after c.args.cell (ask_of c.args.deed) (told_of t.0) t.1)
     (λ t. Turns sites news c.args.cell (ask_of c.args.deed) (told_of t.0) t.1)

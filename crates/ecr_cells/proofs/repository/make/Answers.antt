@@ -18,8 +18,13 @@ returns-in-OnRepository-clause-turned c =
     let moment = c.in-OnRepository.moment in
     let out = c.in_ok-outcome-in-OnRepository.outcome in
     let nowhere = c.new-nowhere.ensures.items in
-    subst (λ (d : Deed). IsRepositoryTurn s after n c.args.caller (ask_of d) (done.Replied out)) (sym c.in-OnRepository.is)
-    (IsRepositoryTurn-call s after n c.args.caller moment (given c.in-OnRepository.load) call out c.a_journal_is_sound.ensures c.requires.later
-    (subst (λ (ds : List SiteId). out.reply ≡ reply_to s (turn_at n moment ds) call) nowhere c.in_ok-outcome-in-OnRepository.ensures.reply)
-    (subst (λ (ds : List SiteId). out.changed ≡ changes s (turn_at n moment ds) call) nowhere c.in_ok-outcome-in-OnRepository.ensures.changed)
-    (subst (λ (ds : List SiteId). after ≡ after_call s c.args.caller (turn_at n moment ds) call) nowhere c.in_ok-outcome-in-OnRepository.ensures.entered))
+    subst (λ (d : Deed). IsRepositoryTurn s after n c.args.caller (ask_of d) (done.Replied out))
+    (sym c.in-OnRepository.is)
+    (IsRepositoryTurn-call s after n c.args.caller moment
+    (given c.in-OnRepository.load) call out c.a_journal_is_sound.ensures c.requires.later
+    (subst (λ (ds : List SiteId). out.reply ≡ reply_to s
+    (turn_at n moment ds) call) nowhere c.in_ok-outcome-in-OnRepository.ensures.reply)
+    (subst (λ (ds : List SiteId). out.changed ≡ changes s
+    (turn_at n moment ds) call) nowhere c.in_ok-outcome-in-OnRepository.ensures.changed)
+    (subst (λ (ds : List SiteId). after ≡ after_call s c.args.caller
+    (turn_at n moment ds) call) nowhere c.in_ok-outcome-in-OnRepository.ensures.entered))

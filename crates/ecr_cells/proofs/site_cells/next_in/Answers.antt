@@ -14,7 +14,8 @@ returns-clause-turned c =
     let done = c.in_ok-done.done in
     IsNextTurn-made c.args.cell.now c.make.new.self n (ask_of c.args.deed) done c.placed-place.result
     (c.requires.numbered ∙ sym c.entries-ticket.ensures) c.in_ok-done.ensures.turned
-    (c.placed-place.ensures ∙ ap (λ k. record { cell = Repository k; ticket = n; changed = changes done }) (sym c.requires.key))
+    (c.placed-place.ensures ∙ ap (λ k. record { cell = Repository k; ticket = n; changed = changes done })
+    (sym c.requires.key))
 
 pub returns-clause-stays : goal.returns-clause-stays
 returns-clause-stays c =

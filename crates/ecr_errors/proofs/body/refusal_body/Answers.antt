@@ -12,7 +12,8 @@ pub returns-clause-text : goal.returns-clause-text
 unfolding refusal_body
 returns-clause-text c =
     let e = c.in_ok-refusal_data.ensures in
-    IfOk-weaker c.bytes-2.result _ _ (λ b h. h (ap has_float e ∙ has_float-refusal_data _ _ _) ∙ ap compact_text e) c.bytes-2.ensures.text
+    IfOk-weaker c.bytes-2.result _ _
+    (λ b h. h (ap has_float e ∙ has_float-refusal_data _ _ _) ∙ ap compact_text e) c.bytes-2.ensures.text
 
 pub returns-clause-reads_back : goal.returns-clause-reads_back
 returns-clause-reads_back c =

@@ -8,11 +8,13 @@ use Rattle.ecr_http.proofs.fields.before_comma.Goals as goal
 pub returns-then-is_comma : goal.returns-then-is_comma
 returns-then-is_comma c =
     let t = c.args.text.now in
-    ap (λ n. take n t) (sym (position_or_len_is is_comma t c.loop-at.at 0 (omega arith) c.loop-at.invariant (λ _. sym c.is_comma.ensures ∙ c.if-is_comma.true)))
+    ap (λ n. take n t) (sym (position_or_len_is is_comma t c.loop-at.at 0 (omega arith) c.loop-at.invariant
+    (λ _. sym c.is_comma.ensures ∙ c.if-is_comma.true)))
 
 -- there is none
 pub returns : goal.returns
 returns c =
     let t = c.args.text.now in
-    sym (ap (λ n. take n t) (position_or_len_is is_comma t c.loop-at.at 0 (omega arith) c.loop-at.invariant (λ h. absurd (omega arith)))
+    sym (ap (λ n. take n t) (position_or_len_is is_comma t c.loop-at.at 0 (omega arith) c.loop-at.invariant
+    (λ h. absurd (omega arith)))
     ∙ take_all c.loop-at.at t c.loop-at-test.false)

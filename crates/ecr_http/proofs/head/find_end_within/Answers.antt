@@ -9,7 +9,8 @@ returns-in_default c = λ k within.
 
 pub returns-then-ends_empty : goal.returns-then-ends_empty
 returns-then-ends_empty c =
-    let none = HasNoEnd-no_line c.args.bytes.now c.loop-looked.looked (c.in-Some.n - 1) c.loop-looked.invariant.1 c.in-Some.ensures.2 in
+    let none = HasNoEnd-no_line c.args.bytes.now c.loop-looked.looked
+    (c.in-Some.n - 1) c.loop-looked.invariant.1 c.in-Some.ensures.2 in
     let within = c.in-Some.ensures.1 in
     record {
       within = omega (arith, c.min-last.ensures);
@@ -20,7 +21,8 @@ returns-then-ends_empty c =
 
 pub loop-looked-preserved : goal.loop-looked-preserved
 loop-looked-preserved c =
-    let none = HasNoEnd-no_line c.args.bytes.now c.loop-looked.looked (c.in-Some.n - 1) c.loop-looked.invariant.1 c.in-Some.ensures.2 in
+    let none = HasNoEnd-no_line c.args.bytes.now c.loop-looked.looked
+    (c.in-Some.n - 1) c.loop-looked.invariant.1 c.in-Some.ensures.2 in
     let within = c.in-Some.ensures.1 in (
       omega (arith, c.min-last.ensures),
       HasNoEnd-next c.args.bytes.now c.in-Some.n none (sym c.ends_empty.ensures ∙ c.if-ends_empty.false),

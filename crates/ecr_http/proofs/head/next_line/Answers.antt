@@ -6,7 +6,8 @@ pub returns-in-None : goal.returns-in-None
 returns-in-None c =
     let bytes = c.args.bytes.now in
     let none = HasNoLine-nowhere bytes c.args.from c.args.to (c.args.to - c.args.from) (omega arith)
-    (λ k low high. c.in-None.ensures k low (omega (arith, length-slice_range bytes c.args.from c.args.to c.requires.1))) in
+    (λ k low high. c.in-None.ensures k low
+    (omega (arith, length-slice_range bytes c.args.from c.args.to c.requires.1))) in
     λ k after within. none k after (omega arith)
 
 pub returns-in-Some : goal.returns-in-Some

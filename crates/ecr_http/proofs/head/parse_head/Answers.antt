@@ -6,19 +6,23 @@ use Rattle.ecr_http.proofs.head.parse_head.Goals as goal
 
 -- what was written in place of all items
 written : {X : Type 0} (len : ℕ) (new old : List X) → length new ≡ len → take len (new ++ drop (length new) old) ≡ new
-written len new old e = ap (λ n. take n (new ++ drop (length new) old)) (sym e) ∙ take-append_seam new (drop (length new) old)
+written len new old e = ap (λ n. take n (new ++ drop (length new) old)) (sym e)
+    ∙ take-append_seam new (drop (length new) old)
 
 pub returns-in-Err : goal.returns-in-Err
-returns-in-Err c = λ h r. c.in-Err.ensures.found h [] r (omega (arith, fields-bound c.args.bytes.now h [] r, c.in_ok-places.ensures.len, c.count_lines.ensures))
+returns-in-Err c = λ h r. c.in-Err.ensures.found h [] r
+    (omega (arith, fields-bound c.args.bytes.now h [] r, c.in_ok-places.ensures.len, c.count_lines.ensures))
 
 pub returns-in-Ok-Partial : goal.returns-in-Ok-Partial
 returns-in-Ok-Partial c = λ h r.
-    (rw c.in-Ok-Partial.field-0-is at c.in-Ok-Partial.ensures.found) h [] r (omega (arith, fields-bound c.args.bytes.now h [] r, c.in_ok-places.ensures.len, c.count_lines.ensures))
+    (rw c.in-Ok-Partial.field-0-is at c.in-Ok-Partial.ensures.found) h [] r
+    (omega (arith, fields-bound c.args.bytes.now h [] r, c.in_ok-places.ensures.len, c.count_lines.ensures))
 
 pub returns-then-parts-bytes : goal.returns-then-parts-bytes
 returns-then-parts-bytes c = λ h r.
     let found = rw c.in-Ok-Complete.field-0-is at c.in-Ok-Complete.ensures.found in
-    let is = found h [] r (omega (arith, fields-bound c.args.bytes.now h [] r, c.in_ok-places.ensures.len, c.count_lines.ensures)) in
+    let is = found h [] r (omega
+    (arith, fields-bound c.args.bytes.now h [] r, c.in_ok-places.ensures.len, c.count_lines.ensures)) in
     c.if-parts-bytes.true (found-whole _ _ _ h is r)
 
 pub returns-in_ok-head-in-Ok-Complete : goal.returns-in_ok-head-in-Ok-Complete
@@ -27,5 +31,10 @@ returns-in_ok-head-in-Ok-Complete c =
     let parses = Parses-found _ _ _ complete.0 complete.1 c.if-parts-bytes.false in
     let kept =
     c.truncate.ensures.items
-    ∙ ap (take c.in-Ok-Complete.parts.headers) (written _ _ _ (omega (arith, c.parse_request.auto.headers, c.deref_mut.ensures.len))) in
-    (parses.0, parses.1, c.in_ok-head-in-Ok-Complete.ensures ∙ ap (head_at c.args.bytes.now c.in-Ok-Complete.parts) kept ∙ parses.2)
+    ∙ ap (take c.in-Ok-Complete.parts.headers)
+    (written _ _ _ (omega (arith, c.parse_request.auto.headers, c.deref_mut.ensures.len))) in (
+      parses.0,
+      parses.1,
+      c.in_ok-head-in-Ok-Complete.ensures
+          ∙ ap (head_at c.args.bytes.now c.in-Ok-Complete.parts) kept ∙ parses.2,
+    )

@@ -4,7 +4,8 @@ use Rattle.ecr_http.proofs.LeadLemmas.{blank_length-more, blank_length-stop}
 use Rattle.ecr_http.proofs.lead.blank_length.Goals as goal
 
 pub loop-n-preserved : goal.loop-n-preserved
-loop-n-preserved c = blank_length-more c.args.bytes.now c.loop-n.n c.loop-n-test.true c.loop-n.invariant (sym c.if-not-is_blank.ensures)
+loop-n-preserved c = blank_length-more c.args.bytes.now c.loop-n.n c.loop-n-test.true c.loop-n.invariant
+    (sym c.if-not-is_blank.ensures)
 
 pub returns : goal.returns
 returns c =
@@ -12,4 +13,5 @@ returns c =
     omega (arith, blank_length-le c.args.bytes.now)
 
 pub returns-then-not-is_blank : goal.returns-then-not-is_blank
-returns-then-not-is_blank c = blank_length-stop c.args.bytes.now c.loop-n.n c.loop-n-test.true c.loop-n.invariant (sym c.if-not-is_blank.ensures)
+returns-then-not-is_blank c =
+    blank_length-stop c.args.bytes.now c.loop-n.n c.loop-n-test.true c.loop-n.invariant (sym c.if-not-is_blank.ensures)

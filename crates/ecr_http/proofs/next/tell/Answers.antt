@@ -9,7 +9,8 @@ pub returns-then-not-waits-clause-sends : goal.returns-then-not-waits-clause-sen
 unfolding interim
 returns-then-not-waits-clause-sends g c =
     let held = g.K.Sink.held c.args.sink.now in
-    subst (λ (due : Bool). Appends held held (interim due)) (sym c.if-not-waits.true ∙ c.waits.ensures) (Appends-nil held)
+    subst (λ (due : Bool). Appends held held (interim due)) (sym c.if-not-waits.true ∙ c.waits.ensures)
+    (Appends-nil held)
 
 pub returns-clause-sends : goal.returns-clause-sends
 unfolding interim

@@ -12,7 +12,9 @@ loop-at-preserved g c =
     let before = c.loop-at.invariant.later in
     record {
       within = omega arith;
-      sent = Appends-take _ _ _ c.args.piece.now c.loop-at.at c.in-Bytes.n c.loop-at.invariant.sent (subst (λ rest. Appends (g.K.Sink.held c.loop-at.sink) (g.K.Sink.held c.write.new.self) (take c.in-Bytes.n rest)) c.rest_from.ensures e.bytes);
+      sent = Appends-take _ _ _ c.args.piece.now c.loop-at.at c.in-Bytes.n c.loop-at.invariant.sent
+          (subst (λ rest. Appends (g.K.Sink.held c.loop-at.sink) (g.K.Sink.held c.write.new.self)
+          (take c.in-Bytes.n rest)) c.rest_from.ensures e.bytes);
       later = omega arith;
     }
 

@@ -14,11 +14,13 @@ pub pass-returns-in-Number : goal.pass-returns-in-Number
 pass-returns-in-Number t c =
     let o = c.number_of.result in
     let is = ap (λ k. token_of k ∷ c.args.reader.now) c.in-Number.is in
-    rw (is, c.is_some.ensures) (passed-number c.args.depth c.in-Number.text.now c.args.reader.now o c.number_of.ensures)
+    rw (is, c.is_some.ensures)
+    (passed-number c.args.depth c.in-Number.text.now c.args.reader.now o c.number_of.ensures)
 
 pub pass-returns-then-depth-gt0 : goal.pass-returns-then-depth-gt0
 pass-returns-then-depth-gt0 t c =
-    let is = ap (λ k. passed c.args.depth (token_of k ∷ c.args.reader.now)) c.in-BeginArray.is ∙ passed-begin_array c.args.depth c.args.reader.now (omega arith) in
+    let is = ap (λ k. passed c.args.depth (token_of k ∷ c.args.reader.now)) c.in-BeginArray.is
+    ∙ passed-begin_array c.args.depth c.args.reader.now (omega arith) in
     rw is c.skip_items.ensures
 
 pub pass-returns-else-depth-gt0 : goal.pass-returns-else-depth-gt0
@@ -28,7 +30,8 @@ pass-returns-else-depth-gt0 t c =
 
 pub pass-returns-then-depth-gt0-2 : goal.pass-returns-then-depth-gt0-2
 pass-returns-then-depth-gt0-2 t c =
-    let is = ap (λ k. passed c.args.depth (token_of k ∷ c.args.reader.now)) c.in-BeginObject.is ∙ passed-begin_object c.args.depth c.args.reader.now (omega arith) in
+    let is = ap (λ k. passed c.args.depth (token_of k ∷ c.args.reader.now)) c.in-BeginObject.is
+    ∙ passed-begin_object c.args.depth c.args.reader.now (omega arith) in
     rw is c.skip_members.ensures
 
 pub pass-returns-else-depth-gt0-2 : goal.pass-returns-else-depth-gt0-2
@@ -60,13 +63,15 @@ pub skip_items-items-preserved : goal.skip_items-items-preserved
 skip_items-items-preserved t c =
     let going : (after_end_array c.items.reader ≡ None) × (c.take_end_array.new.self ≡ c.items.reader) = grind arith in
     let right : passed c.args.depth c.take_end_array.new.self ≡ Some c.skip.new.reader = grind arith in
-    PassesItems-more c.args.depth c.args.reader.now c.items.reader c.skip.new.reader c.items.invariant going.0 (rw (← going.1) right)
+    PassesItems-more c.args.depth c.args.reader.now c.items.reader c.skip.new.reader c.items.invariant going.0
+    (rw (← going.1) right)
 
 pub skip_items-returns : goal.skip_items-returns
 skip_items-returns t c = PassesItems-over c.args.depth c.args.reader.now c.items.reader c.take_end_array.new.self c.items.invariant (grind arith)
 
 pub skip_members-members-init : goal.skip_members-members-init
-skip_members-members-init t c = record { turns = length c.args.reader.now; found = no_members; enough = omega arith; same = refl }
+skip_members-members-init t c =
+    record { turns = length c.args.reader.now; found = no_members; enough = omega arith; same = refl }
 
 pub skip_members-returns-then-not-skip : goal.skip_members-returns-then-not-skip
 skip_members-returns-then-not-skip t c =
@@ -82,7 +87,12 @@ skip_members-members-smaller t c =
     let name = c.in-Ok-Some.field-0-0.now in
     let key : read_key c.members.reader ≡ Some (Some name, s) = grind arith in
     let right : passed c.args.depth s ≡ Some c.skip.new.reader = grind arith in
-    omega (arith, read_key-shorter c.members.reader (Some name) s key, passed-shorter c.args.depth s c.skip.new.reader right)
+    omega (
+      arith,
+      read_key-shorter c.members.reader
+          (Some name) s key,
+      passed-shorter c.args.depth s c.skip.new.reader right,
+    )
 
 pub skip_members-members-preserved : goal.skip_members-members-preserved
 skip_members-members-preserved t c =
@@ -94,7 +104,8 @@ skip_members-members-preserved t c =
 
 pub skip_members-returns-in-Ok-None : goal.skip_members-returns-in-Ok-None
 skip_members-returns-in-Ok-None t c =
-    PassesMembers-over c.args.depth c.args.reader.now c.members.reader c.next_key.new.self c.members.invariant (grind arith)
+    PassesMembers-over c.args.depth c.args.reader.now c.members.reader c.next_key.new.self c.members.invariant
+    (grind arith)
 
 pub skip_members-returns-in-Err : goal.skip_members-returns-in-Err
 skip_members-returns-in-Err t c =

@@ -14,7 +14,8 @@ returns-in_default c =
 pub returns-in-BeginObject : goal.returns-in-BeginObject
 returns-in-BeginObject c =
     let first : c.args.reader.now ≡ token_of c.in-Some.token ∷ c.next.new.self = grind arith in
-    let opened : c.args.reader.now ≡ Token.begin_object ∷ c.next.new.self = first ∙ ap (λ k. token_of k ∷ c.next.new.self) c.in-BeginObject.is in
+    let opened : c.args.reader.now ≡ Token.begin_object ∷ c.next.new.self =
+    first ∙ ap (λ k. token_of k ∷ c.next.new.self) c.in-BeginObject.is in
     rw opened c.read_object.ensures
 
 pub returns-in_default-token : goal.returns-in_default-token

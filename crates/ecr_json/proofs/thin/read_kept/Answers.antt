@@ -16,7 +16,9 @@ members-preserved c =
     let s = c.next_key.new.self in
     let key : read_key c.members.reader ≡ Some (Some name, s) = grind arith in
     let keeps = rw c.if-not-is_right.false at c.in_ok-is_right-in-Ok-Some.ensures in
-    ReadsMembers-more names c.args.depth c.args.reader.now c.members.reader (members_view c.members.found.entries) name s c.read_member.new.reader (members_view c.read_member.new.found.entries)
+    ReadsMembers-more names c.args.depth c.args.reader.now c.members.reader
+    (members_view c.members.found.entries) name s c.read_member.new.reader
+    (members_view c.read_member.new.found.entries)
     c.members.invariant key keeps
 
 pub members-smaller : goal.members-smaller
@@ -26,7 +28,9 @@ members-smaller c =
     let s = c.next_key.new.self in
     let key : read_key c.members.reader ≡ Some (Some name, s) = grind arith in
     let keeps = rw c.if-not-is_right.false at c.in_ok-is_right-in-Ok-Some.ensures in
-    ReadsMembers-smaller names c.args.depth c.args.reader.now c.members.reader (members_view c.members.found.entries) name s c.read_member.new.reader (members_view c.read_member.new.found.entries)
+    ReadsMembers-smaller names c.args.depth c.args.reader.now c.members.reader
+    (members_view c.members.found.entries) name s c.read_member.new.reader
+    (members_view c.read_member.new.found.entries)
     key keeps
 
 pub returns-then-not-is_right : goal.returns-then-not-is_right
@@ -36,16 +40,19 @@ returns-then-not-is_right c =
     let s = c.next_key.new.self in
     let key : read_key c.members.reader ≡ Some (Some name, s) = grind arith in
     let wrong = rw c.if-not-is_right.true at c.in_ok-is_right-in-Ok-Some.ensures in
-    ReadsMembers-refused names c.args.depth c.args.reader.now c.members.reader (members_view c.members.found.entries) name s _ c.members.invariant key wrong
+    ReadsMembers-refused names c.args.depth c.args.reader.now c.members.reader
+    (members_view c.members.found.entries) name s _ c.members.invariant key wrong
 
 pub returns-in-Ok-None : goal.returns-in-Ok-None
 returns-in-Ok-None c =
     let names = map (λ n. n.now) c.args.names.now in
     let key : read_key c.members.reader ≡ Some (None, c.next_key.new.self) = grind arith in
-    ReadsMembers-over names c.args.depth c.args.reader.now c.members.reader (members_view c.members.found.entries) c.next_key.new.self c.members.invariant key
+    ReadsMembers-over names c.args.depth c.args.reader.now c.members.reader
+    (members_view c.members.found.entries) c.next_key.new.self c.members.invariant key
 
 pub returns-in-Err : goal.returns-in-Err
 returns-in-Err c =
     let names = map (λ n. n.now) c.args.names.now in
     let key : read_key c.members.reader ≡ None = grind arith in
-    ReadsMembers-no_key names c.args.depth c.args.reader.now c.members.reader (members_view c.members.found.entries) _ c.members.invariant key
+    ReadsMembers-no_key names c.args.depth c.args.reader.now c.members.reader
+    (members_view c.members.found.entries) _ c.members.invariant key

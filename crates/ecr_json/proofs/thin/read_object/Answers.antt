@@ -8,7 +8,8 @@ pub returns-in-Some : goal.returns-in-Some
 returns-in-Some c =
     let names = map (λ n. n.now) c.args.names.now in
     let found = c.in-Some.found in
-    let kept = KeepsOf-object names c.args.reader.now (Some (members_view found.entries)) c.read_kept.new.reader (rw c.in-Some.is at c.in_ok-found.ensures) in
+    let kept = KeepsOf-object names c.args.reader.now (Some (members_view found.entries)) c.read_kept.new.reader
+    (rw c.in-Some.is at c.in_ok-found.ensures) in
     rw (view-Object found) kept
 
 pub returns-in-None : goal.returns-in-None

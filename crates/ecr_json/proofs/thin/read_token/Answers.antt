@@ -12,19 +12,22 @@ use Rattle.ecr_json.proofs.thin.read_token.Goals as goal
 pub returns-in_ok-try_from_str-in-String : goal.returns-in_ok-try_from_str-in-String
 returns-in_ok-try_from_str-in-String c =
     let is = ap (λ k. thin_value c.args.depth (token_of k ∷ c.args.reader.now)) c.in-String.is in
-    is ∙ thin_value-string c.args.depth c.args.reader.now c.in-String.text.now ∙ ap (λ d. Some (d, c.args.reader.now)) (sym c.in_ok-try_from_str-in-String.ensures)
+    is ∙ thin_value-string c.args.depth c.args.reader.now c.in-String.text.now
+    ∙ ap (λ d. Some (d, c.args.reader.now)) (sym c.in_ok-try_from_str-in-String.ensures)
 
 pub returns-in-Number : goal.returns-in-Number
 returns-in-Number c =
     let is = ap (λ k. thin_value c.args.depth (token_of k ∷ c.args.reader.now)) c.in-Number.is in
-    is ∙ thin_value-number c.args.depth c.args.reader.now c.in-Number.text.now ∙ ap (option_map {U = Data × List token.Token} (λ d. (d, c.args.reader.now))) (sym c.number_value.ensures)
+    is ∙ thin_value-number c.args.depth c.args.reader.now c.in-Number.text.now
+    ∙ ap (option_map {U = Data × List token.Token} (λ d. (d, c.args.reader.now))) (sym c.number_value.ensures)
     ∙ sym (paired c.args.reader.now c.number_value.result)
 
 pub returns-in-Bool : goal.returns-in-Bool
 returns-in-Bool c =
     let is = ap (λ k. thin_value c.args.depth (token_of k ∷ c.args.reader.now)) c.in-Bool.is in
     let seen : view (Bool c.in-Bool.b) ≡ boolean c.in-Bool.b = search (rules, the_lemmas) in
-    is ∙ thin_value-boolean c.args.depth c.args.reader.now c.in-Bool.b ∙ ap (λ d. Some (d, c.args.reader.now)) (sym seen)
+    is ∙ thin_value-boolean c.args.depth c.args.reader.now c.in-Bool.b
+    ∙ ap (λ d. Some (d, c.args.reader.now)) (sym seen)
 
 pub returns-in-Null : goal.returns-in-Null
 returns-in-Null c =

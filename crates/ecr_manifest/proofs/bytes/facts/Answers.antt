@@ -6,5 +6,6 @@ use Rattle.ecr_manifest.proofs.bytes.facts.Goals as goal
 
 pub reading-requires : goal.reading-requires
 reading-requires c =
-    let there : document c.args.bytes.now ≡ Some (view c.in-Some.value) = sym c.in_ok-value.ensures ∙ ap (option_map view) c.in-Some.is in
+    let there : document c.args.bytes.now ≡ Some (view c.in-Some.value) =
+    sym c.in_ok-value.ensures ∙ ap (option_map view) c.in-Some.is in
     omega (arith, c.requires, document-size c.args.bytes.now (view c.in-Some.value) there)

@@ -10,5 +10,6 @@ use Rattle.ecr_manifest.proofs.bytes.read_document.Goals as goal
 pub returns-in-Ok : goal.returns-in-Ok
 returns-in-Ok c =
     let utf8 = c.in-Ok.ensures.cases in
-    let same : read c.in-Ok.text.now ≡ document c.args.bytes.now = ap read utf8.0 ∙ sym (document-IsUtf8 c.args.bytes.now utf8.1) in
+    let same : read c.in-Ok.text.now ≡ document c.args.bytes.now =
+    ap read utf8.0 ∙ sym (document-IsUtf8 c.args.bytes.now utf8.1) in
     subst (λ (d : Option Data). IfOk c.read_json.result (λ o. option_map view o ≡ d)) same c.read_json.ensures

@@ -12,5 +12,9 @@ loop-at-preserved c =
       | then-byte-ne32 w ↦
           record { within = omega arith; last = w.end-is ∙ sym (through_last-other t i lt w.if-byte-ne32.true) }
       | else-byte-ne32 w ↦
-          record { within = omega arith; last = w.end-is ∙ c.loop-at.invariant.last ∙ sym (through_last-space t i lt w.if-byte-ne32.false) }
+          record {
+            within = omega arith;
+            last = w.end-is ∙ c.loop-at.invariant.last
+                ∙ sym (through_last-space t i lt w.if-byte-ne32.false);
+          }
     ]

@@ -5,4 +5,5 @@ use Rattle.ecr_manifest.proofs.manifest.descriptors.Goals as goal
 
 pub returns : goal.returns
 returns c =
-    subst (λ (ds : List (Option Descriptor)). IfOk c.read_each.result (λ v. v.items ≡ ds)) (sym (descriptors-items_view c.args.values.now)) c.read_each.ensures
+    subst (λ (ds : List (Option Descriptor)). IfOk c.read_each.result (λ v. v.items ≡ ds))
+    (sym (descriptors-items_view c.args.values.now)) c.read_each.ensures

@@ -20,21 +20,27 @@ loop-digest-preserved c =
     elim c.if-branch.branch [
       | then-branch+in_ok-push w ↦
           let items : c.if-branch.kept.items ≡ kept ++ e ∷ [] = cc (w.kept-is, w.in_ok-push.ensures.items) in
-          let absent : was ≡ Bool.false = absent_where_new c.in_ok-note.field-0 was w.if-branch.true c.in_ok-note.ensures.new in
+          let absent : was ≡ Bool.false =
+          absent_where_new c.in_ok-note.field-0 was w.if-branch.true c.in_ok-note.ensures.new in
           record {
-            once = items ∙ kept-added xs kept i (record { bytes = [] }) c.loop-digest-test.true inv.once (sym (inv.same e.bytes) ∙ absent);
+            once = items ∙ kept-added xs kept i (record { bytes = [] }) c.loop-digest-test.true inv.once
+                (sym (inv.same e.bytes) ∙ absent);
             same =
                 λ q. c.in_ok-note.ensures.added q
-                ∙ ap (λ (b : Bool). cond b true (contains (slice_cmp nat_cmp) c.loop-digest.seen q)) (is_eq-slice_cmp e.bytes q)
+                ∙ ap (λ (b : Bool). cond b true (contains (slice_cmp nat_cmp) c.loop-digest.seen q))
+                (is_eq-slice_cmp e.bytes q)
                 ∙ ap (λ (b : Bool). cond (bytes_eq e.bytes q) true b) (inv.same q)
                 ∙ sym (is_kept-added q kept e) ∙ ap (λ (l : List Digest). is_kept q l) (sym items);
           }
       | else-branch w ↦
           let items : c.if-branch.kept.items ≡ kept = cc (w.kept-is) in
           let there : was ≡ true = there_where_old c.in_ok-note.field-0 was w.if-branch.false c.in_ok-note.ensures.new in
-          let same = where_false c.in_ok-note.field-0 ((q : List ℕ) → contains (slice_cmp nat_cmp) c.note.new.seen q ≡ contains (slice_cmp nat_cmp) c.loop-digest.seen q) w.if-branch.false c.in_ok-note.ensures.same in
+          let same = where_false c.in_ok-note.field-0
+          ((q : List ℕ) → contains (slice_cmp nat_cmp) c.note.new.seen q ≡ contains
+          (slice_cmp nat_cmp) c.loop-digest.seen q) w.if-branch.false c.in_ok-note.ensures.same in
           record {
-            once = items ∙ kept-present xs kept i (record { bytes = [] }) c.loop-digest-test.true inv.once (sym (inv.same e.bytes) ∙ there);
+            once = items ∙ kept-present xs kept i (record { bytes = [] }) c.loop-digest-test.true inv.once
+                (sym (inv.same e.bytes) ∙ there);
             same = λ q. same q ∙ inv.same q ∙ ap (λ (l : List Digest). is_kept q l) (sym items);
           }
     ]

@@ -10,4 +10,5 @@ use Rattle.ecr_model.specs.documents.Documents.{document}
 -- bytes that are UTF-8 have the reading of their text
 pub document-IsUtf8 : (bytes : List ℕ) → IsUtf8 bytes → document bytes ≡ read bytes
 unfolding document
-document-IsUtf8 bytes h = cond-true _ (read bytes) None (eq-eqb (utf8_valid_len bytes) (length bytes) (utf8_valid_len-IsUtf8 bytes h))
+document-IsUtf8 bytes h =
+    cond-true _ (read bytes) None (eq-eqb (utf8_valid_len bytes) (length bytes) (utf8_valid_len-IsUtf8 bytes h))

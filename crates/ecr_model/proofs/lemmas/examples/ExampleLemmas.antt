@@ -28,8 +28,6 @@ use Rattle.ecr_model.specs.registry.Scripts.{Run, then_do, run, entered, turn_at
 use Rattle.ecr_model.specs.registry.Limits.{standard}
 use Rattle.ecr_model.specs.registry.Steps as steps
 use Rattle.ecr_model.specs.declared.requests.call.Call.TheVariants.{Create}
-use Rattle.ecr_model.specs.declared.names.RepoKey.{RepoKey}
-use Rattle.ecr_model.specs.declared.requests.reply.Reply.{Reply}
 use Rattle.ecr_model.specs.declared.requests.reply.Reply.TheVariants.{Created}
 use Rattle.ecr_model.specs.declared.registry.repository.Mutability.TheVariants.{Mutable}
 use Rattle.ecr_model.specs.names.Names.{is_name}
@@ -66,21 +64,34 @@ pub a_first_creation_is_answered : AFirstCreationIsAnswered
 unfolding written says_close
 a_first_creation_is_answered =
     ap (λ p. posed_bytes p false (outcome_of example_realm fresh 1700000000 first_request).answer.reply []) posed
-    ∙ ap (λ r. posed_bytes creation false r []) (ap (λ (r : Run Decided). r.answer.reply) outcome-posed ∙ ap (λ (d : Decided). d.reply) answered.0) ∙ rendered
+    ∙ ap (λ r. posed_bytes creation false r [])
+    (ap (λ (r : Run Decided). r.answer.reply) outcome-posed ∙ ap (λ (d : Decided). d.reply) answered.0) ∙ rendered
 
 -- the exchange is what the request's turns come to
-first_served : IsServed first_standing first_exchange (record first_standing { world = left_by example_realm fresh 1700000000 first_cut first_request })
+first_served : IsServed first_standing first_exchange
+    (record first_standing { world = left_by example_realm fresh 1700000000 first_cut first_request })
 first_served =
-    let two : (outcome_of example_realm fresh 1700000000 first_request).entries ≡ 2 = ap (λ (r : Run Decided). r.entries) outcome-posed ∙ answered.1 in
+    let two : (outcome_of example_realm fresh 1700000000 first_request).entries ≡ 2 =
+    ap (λ (r : Run Decided). r.entries) outcome-posed ∙ answered.1 in
     let none : (outcome_of example_realm fresh 1700000000 first_request).answer.sealed ≡ None =
     ap (λ (r : Run Decided). r.answer.sealed) outcome-posed ∙ ap (λ (d : Decided). d.sealed) answered.0 in
-    let there : (outcome_of example_realm fresh 1700000000 first_request).places ≡ first_places = ap (λ (r : Run Decided). r.places) outcome-posed ∙ answered.2 in
+    let there : (outcome_of example_realm fresh 1700000000 first_request).places ≡ first_places =
+    ap (λ (r : Run Decided). r.places) outcome-posed ∙ answered.2 in
     record {
       realm_stays = refl;
       fixed_stays = refl;
       timed = (refl, tt);
-      counts = record { at_most = omega (arith, two); all = λ served. sym two; sealed = λ served. sym none; no_other = inl refl };
-      placed = record { all = λ served. sym there; first = ([], there ∙ sym (append-nil first_places)); changed = omega arith };
+      counts = record {
+        at_most = omega (arith, two);
+        all = λ served. sym two;
+        sealed = λ served. sym none;
+        no_other = inl refl;
+      };
+      placed = record {
+        all = λ served. sym there;
+        first = ([], there ∙ sym (append-nil first_places));
+        changed = omega arith;
+      };
       carries = refl;
       bytes = sym a_first_creation_is_answered;
       leaves = refl;
@@ -219,7 +230,8 @@ body_stands = refl
 
 front : IsFront 0 first_bytes (whole first_request 154)
 unfolding first_head
-front = IsFront-body 0 first_bytes 125 first_head (Sized 29) (complete first_request.body 29) head_length head_parses head_states body_stands
+front = IsFront-body 0 first_bytes 125 first_head (Sized 29)
+    (complete first_request.body 29) head_length head_parses head_states body_stands
 
 last : Point
 last = record { at = 154; ahead = []; closed = false }

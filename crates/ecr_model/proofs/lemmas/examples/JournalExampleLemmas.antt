@@ -7,7 +7,17 @@ use Rattle.ecr_model.specs.registry.Steps as steps
 
 pub a_repository_comes_and_goes : ARepositoryComesAndGoes
 unfolding replay steps.step steps.first_state steps.after_line
-a_repository_comes_and_goes = record { not_yet = refl; there = refl; twice = refl; set = refl; gone = refl; gone_twice = refl; unset = refl; again = refl }
+a_repository_comes_and_goes =
+    record {
+      not_yet = refl;
+      there = refl;
+      twice = refl;
+      set = refl;
+      gone = refl;
+      gone_twice = refl;
+      unset = refl;
+      again = refl;
+    }
 
 pub lines_stand_between : LinesStandBetween
 unfolding replay steps.first_state steps.after_line
@@ -15,4 +25,11 @@ lines_stand_between = record { are = refl; none = refl; all = refl; lead_on = re
 
 pub names_are_in_order : NamesAreInOrder
 unfolding replay directories.after_line directories.first_directory directories.registration
-names_are_in_order = record { ordered = refl; first_page = refl; last_page = refl; full = refl; known = refl; before = refl }
+names_are_in_order = record {
+  ordered = refl;
+  first_page = refl;
+  last_page = refl;
+  full = refl;
+  known = refl;
+  before = refl;
+}

@@ -22,20 +22,23 @@ is_settled_part (lacking lack) = is_settled_lack lack
 pub line_size-le : (bytes : List ℕ) → line_size bytes ≤ length bytes
 line_size-le bytes = prefix_len-le-length _ bytes
 
-pub line_size-append : (bytes more : List ℕ) → line_size bytes < length bytes → line_size (bytes ++ more) ≡ line_size bytes
+pub line_size-append : (bytes more : List ℕ) → line_size bytes < length bytes
+    → line_size (bytes ++ more) ≡ line_size bytes
 line_size-append bytes more before =
     prefix_len-append _ bytes more ∙ cond-false _ _ _ (ne_eqb (line_size bytes) (length bytes) (λ same. omega arith))
 
 -- a line that had no end in these bytes is no shorter with more of them
 pub line_size-grows : (bytes more : List ℕ) → line_size bytes ≤ line_size (bytes ++ more)
 line_size-grows bytes more =
-    grows (line_size bytes == length bytes) (line_size bytes) (length bytes) (line_size more) (line_size-le bytes) (prefix_len-append _ bytes more)
+    grows (line_size bytes == length bytes) (line_size bytes) (length bytes) (line_size more) (line_size-le bytes)
+    (prefix_len-append _ bytes more)
   where
     grows : (same : Bool) (s l m : ℕ) {t : ℕ} → s ≤ l → t ≡ cond same (l + m) s → s ≤ t
     grows true s l m within is = omega arith
     grows false s l m within is = omega arith
 
-line_end-parts : (s l m n : ℕ) → (if nat_lt s l && nat_lt s m then Some s else None) ≡ Some n → (s ≡ n) × (s < l) × (s < m)
+line_end-parts : (s l m n : ℕ) → (if nat_lt s l && nat_lt s m then Some s else None) ≡ Some n → (s ≡ n) × (s < l)
+    × (s < m)
 line_end-parts s l m n is = by (nat_lt s l) (nat_lt s m) refl refl is
   where
     by : (a b : Bool) → nat_lt s l ≡ a → nat_lt s m ≡ b → (if a && b then Some s else None) ≡ Some n
@@ -46,7 +49,8 @@ line_end-parts s l m n is = by (nat_lt s l) (nat_lt s m) refl refl is
 
 line_end-none : (s l m : ℕ) → (if nat_lt s l && nat_lt s m then Some s else None) ≡ None → s < l → m ≤ s
 line_end-none s l m is before =
-    by (nat_lt s m) refl (subst (λ (a : Bool). (if a && nat_lt s m then Some s else None) ≡ None) (lt-ltb s l before) is)
+    by (nat_lt s m) refl (subst (λ (a : Bool). (if a && nat_lt s m then Some s else None) ≡ None)
+    (lt-ltb s l before) is)
   where
     by : (b : Bool) → nat_lt s m ≡ b → (if true && b then Some s else None) ≡ None → m ≤ s
     by true q is = absurd (cc)
@@ -84,7 +88,8 @@ pub line_end-stays_none : (bytes more : List ℕ) → line_end bytes ≡ None �
 line_end-stays_none bytes more is long =
     let most : line_size bytes ≤ length bytes = line_size-le bytes in
     let large : max_chunk_line ≤ line_size bytes = ⊎_elim
-    (λ (before : line_size bytes < length bytes). line_end-none (line_size bytes) (length bytes) max_chunk_line is before)
+    (λ (before : line_size bytes < length bytes). line_end-none (line_size bytes)
+    (length bytes) max_chunk_line is before)
     (λ (past : length bytes ≤ line_size bytes). omega arith) (cases_lt (line_size bytes) (length bytes)) in
     line_end-long (bytes ++ more) (omega (arith, line_size-grows bytes more))
 
@@ -135,14 +140,16 @@ if_crlf-append part [] more settled = absurd (cc)
 if_crlf-append part (b ∷ bytes) more settled = by (b == 13) settled
   where
     by : (same : Bool) → is_settled_part (if same then if_next 10 part bytes else lacking bad) ≡ true
-        → (if same then if_next 10 part (bytes ++ more) else lacking bad) ≡ (if same then if_next 10 part bytes else lacking bad)
+        → (if same then if_next 10 part (bytes ++ more) else lacking bad) ≡
+        (if same then if_next 10 part bytes else lacking bad)
     by true settled = if_next-append 10 part bytes more settled
     by false settled = refl
 
 -- where CR LF is due behind the data and a byte came, the data is there
 chunk_of-within : (line : ℕ) (bytes : List ℕ) (size : ℕ) → is_settled_part (chunk_of line bytes size) ≡ true
     → size < length bytes
-chunk_of-within line bytes size settled = ⊎_elim (λ before. before) (λ past. absurd (empty past)) (cases_lt size (length bytes))
+chunk_of-within line bytes size settled =
+    ⊎_elim (λ before. before) (λ past. absurd (empty past)) (cases_lt size (length bytes))
   where
     empty : length bytes ≤ size → ⊥
     empty past =
@@ -162,7 +169,8 @@ chunk_of-append line bytes more size settled =
 
 if_within-append : (limit so_far line size : ℕ) (bytes more : List ℕ)
     → is_settled_part (if_within limit so_far size (chunk_of line bytes size)) ≡ true
-    → if_within limit so_far size (chunk_of line (bytes ++ more) size) ≡ if_within limit so_far size (chunk_of line bytes size)
+    → if_within limit so_far size (chunk_of line (bytes ++ more) size) ≡ if_within limit so_far size
+    (chunk_of line bytes size)
 if_within-append limit so_far line size bytes more settled = by (nat_le (so_far + size) limit) settled
   where
     by : (fits : Bool) → is_settled_part (if fits then chunk_of line bytes size else lacking (too_long limit)) ≡ true
@@ -193,20 +201,25 @@ last-append n bytes more None ends settled = by (nat_le (length bytes) max_trail
         )
 
 IsSaid-append : (limit so_far : ℕ) (bytes more : List ℕ) (n : ℕ) (size : Option ℕ) (part : Part) → suc n ≤ length bytes
-    → is_settled_part part ≡ true → IsSaid limit so_far bytes n size part → IsSaid limit so_far (bytes ++ more) n size part
+    → is_settled_part part ≡ true → IsSaid limit so_far bytes n size part
+    → IsSaid limit so_far (bytes ++ more) n size part
 IsSaid-append limit so_far bytes more n None part within settled is = is
 IsSaid-append limit so_far bytes more n (Some zero) part within settled is =
     let longer : drop n (bytes ++ more) ≡ drop n bytes ++ more = drop-append-le n bytes more (omega arith) in
-    let stays : EndsAt (1 + max_trailers) (drop n bytes ++ more) is.0 × (last_of n (drop n bytes ++ more) is.0 ≡ last_of n (drop n bytes) is.0) =
+    let stays : EndsAt (1 + max_trailers) (drop n bytes ++ more) is.0
+    × (last_of n (drop n bytes ++ more) is.0 ≡ last_of n (drop n bytes) is.0) =
     last-append n (drop n bytes) more is.0 is.1 (sym (ap is_settled_part is.2) ∙ settled) in
     (is.0, rw longer stays.0, is.2 ∙ sym stays.1 ∙ ap (λ (b : List ℕ). last_of n b is.0) (sym longer))
 IsSaid-append limit so_far bytes more n (Some (suc k)) part within settled is =
-    let longer : drop (suc n) (bytes ++ more) ≡ drop (suc n) bytes ++ more = drop-append-le (suc n) bytes more within in
+    let longer : drop (suc n) (bytes ++ more) ≡ drop (suc n) bytes ++ more =
+    drop-append-le (suc n) bytes more within in
     is
-    ∙ sym (if_within-append limit so_far (suc n) (suc k) (drop (suc n) bytes) more (sym (ap is_settled_part is) ∙ settled))
+    ∙ sym (if_within-append limit so_far (suc n) (suc k) (drop (suc n) bytes) more
+    (sym (ap is_settled_part is) ∙ settled))
     ∙ ap (λ (b : List ℕ). if_within limit so_far (suc k) (chunk_of (suc n) b (suc k))) (sym longer)
 
-pub Says-append : (bytes more : List ℕ) (n : ℕ) (size : Option ℕ) → suc n ≤ length bytes → Says (take (suc n) bytes) size
+pub Says-append : (bytes more : List ℕ) (n : ℕ) (size : Option ℕ) → suc n ≤ length bytes
+    → Says (take (suc n) bytes) size
     → Says (take (suc n) (bytes ++ more)) size
 Says-append bytes more n size within says = rw (take-append-le (suc n) bytes more within) says
 
@@ -257,7 +270,8 @@ if_next-chunk : (byte : ℕ) (part : Part) (bytes : List ℕ) (c : List ℕ) (n 
 if_next-chunk byte part [] c n is = absurd (cc)
 if_next-chunk byte part (b ∷ bytes) c n is = by (b == byte) is
   where
-    by : (same : Bool) → (if same then part else lacking bad) ≡ chunk c n → (0 < length (b ∷ bytes)) × (part ≡ chunk c n)
+    by : (same : Bool) → (if same then part else lacking bad) ≡ chunk c n → (0 < length (b ∷ bytes))
+        × (part ≡ chunk c n)
     by true is = (omega arith, is)
     by false is = absurd (cc)
 
@@ -265,13 +279,16 @@ if_next-chunk byte part (b ∷ bytes) c n is = by (b == byte) is
 chunk_of-chunk : (line : ℕ) (bytes : List ℕ) (size : ℕ) (c : List ℕ) (n : ℕ) → chunk_of line bytes size ≡ chunk c n
     → (c ≡ take size bytes) × (n ≡ line + size + 2) × (size + 2 ≤ length bytes)
 chunk_of-chunk line bytes size c n is =
-    let first : (0 < length (drop size bytes)) × (if_next 10 (chunk (take size bytes) (line + size + 2)) (drop 1 (drop size bytes)) ≡ chunk c n) =
-    if_next-chunk 13 (if_next 10 (chunk (take size bytes) (line + size + 2)) (drop 1 (drop size bytes))) (drop size bytes) c n is in
+    let first : (0 < length (drop size bytes))
+    × (if_next 10 (chunk (take size bytes) (line + size + 2)) (drop 1 (drop size bytes)) ≡ chunk c n) =
+    if_next-chunk 13 (if_next 10 (chunk (take size bytes) (line + size + 2)) (drop 1 (drop size bytes)))
+    (drop size bytes) c n is in
     let second : (0 < length (drop 1 (drop size bytes))) × (chunk (take size bytes) (line + size + 2) ≡ chunk c n) =
     if_next-chunk 10 (chunk (take size bytes) (line + size + 2)) (drop 1 (drop size bytes)) c n first.1 in
     (cc, cc, omega (arith, second.0, length-drop 1 (drop size bytes), length-drop size bytes))
 
-if_within-chunk : (limit so_far size : ℕ) (part : Part) (c : List ℕ) (n : ℕ) → if_within limit so_far size part ≡ chunk c n
+if_within-chunk : (limit so_far size : ℕ) (part : Part) (c : List ℕ) (n : ℕ)
+    → if_within limit so_far size part ≡ chunk c n
     → part ≡ chunk c n
 if_within-chunk limit so_far size part c n is = by (nat_le (so_far + size) limit) is
   where
@@ -288,7 +305,8 @@ IsSaid-chunk_length limit so_far bytes n (Some zero) c m within is = absurd (non
     none None same = cc
     none (Some e) same = cc
 IsSaid-chunk_length limit so_far bytes n (Some (suc k)) c m within is =
-    let parts : (c ≡ take (suc k) (drop (suc n) bytes)) × (m ≡ suc n + suc k + 2) × (suc k + 2 ≤ length (drop (suc n) bytes)) =
+    let parts : (c ≡ take (suc k) (drop (suc n) bytes)) × (m ≡ suc n + suc k + 2)
+    × (suc k + 2 ≤ length (drop (suc n) bytes)) =
     chunk_of-chunk (suc n) (drop (suc n) bytes) (suc k) c m
     (if_within-chunk limit so_far (suc k) (chunk_of (suc n) (drop (suc n) bytes) (suc k)) c m (sym is)) in
     (omega (arith, parts.1), omega (arith, parts.1, parts.2, length-drop (suc n) bytes))
@@ -314,7 +332,8 @@ IsSaid-last_length limit so_far bytes n (Some (suc k)) m within is = absurd (non
         by false same = cc
     crlf_none c j (a ∷ b ∷ rest) same = by (a == 13) (b == 10) same
       where
-        by : (is then_ : Bool) → last_chunk m ≡ (if is then (if then_ then chunk c j else lacking bad) else lacking bad) → ⊥
+        by : (is then_ : Bool) → last_chunk m ≡
+            (if is then (if then_ then chunk c j else lacking bad) else lacking bad) → ⊥
         by true true same = cc
         by true false same = cc
         by false then_ same = cc
@@ -322,11 +341,14 @@ IsSaid-last_length limit so_far bytes n (Some (suc k)) m within is = absurd (non
     none : last_chunk m ≡ if_within limit so_far (suc k) (chunk_of (suc n) (drop (suc n) bytes) (suc k)) → ⊥
     none same = by (nat_le (so_far + suc k) limit) same
       where
-        by : (fits : Bool) → last_chunk m ≡ (if fits then chunk_of (suc n) (drop (suc n) bytes) (suc k) else lacking (too_long limit)) → ⊥
-        by true same = crlf_none (take (suc k) (drop (suc n) bytes)) (suc n + suc k + 2) (drop (suc k) (drop (suc n) bytes)) same
+        by : (fits : Bool) → last_chunk m ≡
+            (if fits then chunk_of (suc n) (drop (suc n) bytes) (suc k) else lacking (too_long limit)) → ⊥
+        by true same = crlf_none (take (suc k) (drop (suc n) bytes)) (suc n + suc k + 2)
+            (drop (suc k) (drop (suc n) bytes)) same
         by false same = cc
 
-IsLined-chunk_length : (limit so_far : ℕ) (bytes : List ℕ) (end size : Option ℕ) (c : List ℕ) (m : ℕ) → line_end bytes ≡ end
+IsLined-chunk_length : (limit so_far : ℕ) (bytes : List ℕ) (end size : Option ℕ) (c : List ℕ) (m : ℕ)
+    → line_end bytes ≡ end
     → IsLined limit so_far bytes end size (chunk c m) → (0 < m) × (m ≤ length bytes)
 IsLined-chunk_length limit so_far bytes None size c m ends is = absurd (cc)
 IsLined-chunk_length limit so_far bytes (Some n) size c m ends is =
@@ -338,7 +360,8 @@ IsLined-last_length limit so_far bytes None size m ends is = absurd (cc)
 IsLined-last_length limit so_far bytes (Some n) size m ends is =
     IsSaid-last_length limit so_far bytes n size m (omega (arith, (line_end-is bytes n ends).1)) is
 
-pub IsPart-chunk_positive : (limit so_far : ℕ) (bytes c : List ℕ) (n : ℕ) → IsPart limit so_far bytes (chunk c n) → 0 < n
+pub IsPart-chunk_positive : (limit so_far : ℕ) (bytes c : List ℕ) (n : ℕ) → IsPart limit so_far bytes (chunk c n)
+    → 0 < n
 IsPart-chunk_positive limit so_far bytes c n is =
     (IsLined-chunk_length limit so_far bytes (line_end bytes) is.size c n refl is.is).0
 
@@ -349,7 +372,8 @@ IsPart-chunk_length limit so_far bytes c n is =
 
 pub IsPart-last_length : (limit so_far : ℕ) (bytes : List ℕ) (n : ℕ) → IsPart limit so_far bytes (last_chunk n)
     → n ≤ length bytes
-IsPart-last_length limit so_far bytes n is = IsLined-last_length limit so_far bytes (line_end bytes) is.size n refl is.is
+IsPart-last_length limit so_far bytes n is =
+    IsLined-last_length limit so_far bytes (line_end bytes) is.size n refl is.is
 
 -- ---- several chunks
 
@@ -368,18 +392,21 @@ Comes-append limit p others part settled comes = IsPart-append limit (length p.b
 pub Comes-unique : (limit : ℕ) (p : Progress) (a b : Part) → Comes limit p a → Comes limit p b → a ≡ b
 Comes-unique limit p a b x y = IsPart-unique limit (length p.body) p.ahead a b x y
 
-pub Chunks-append : (limit : ℕ) (p : Progress) (others : List ℕ) (cs : List (List ℕ)) (q : Progress) → Chunks limit p cs q
+pub Chunks-append : (limit : ℕ) (p : Progress) (others : List ℕ) (cs : List (List ℕ)) (q : Progress)
+    → Chunks limit p cs q
     → Chunks limit (with_more p others) cs (with_more q others)
 Chunks-append limit p others [] q begins = ap (λ (x : Progress). with_more x others) begins
 Chunks-append limit p others (c ∷ cs) q begins = (
   begins.0,
   Comes-append limit p others (chunk c begins.0) refl begins.1,
   subst (λ (x : Progress). Chunks limit x cs (with_more q others))
-      (sym (past_chunk-more p others c begins.0 (IsPart-chunk_length limit (length p.body) p.ahead c begins.0 begins.1)))
+      (sym (past_chunk-more p others c begins.0
+      (IsPart-chunk_length limit (length p.body) p.ahead c begins.0 begins.1)))
       (Chunks-append limit (past_chunk p c begins.0) others cs q begins.2),
 )
 
-pub Chunks-more : (limit : ℕ) (p : Progress) (cs : List (List ℕ)) (q : Progress) (c : List ℕ) (n : ℕ) → Chunks limit p cs q
+pub Chunks-more : (limit : ℕ) (p : Progress) (cs : List (List ℕ)) (q : Progress) (c : List ℕ) (n : ℕ)
+    → Chunks limit p cs q
     → Comes limit q (chunk c n) → Chunks limit p (cs ++ c ∷ []) (past_chunk q c n)
 Chunks-more limit p [] q c n begins comes =
     subst (λ (x : Progress). Chunks limit x (c ∷ []) (past_chunk q c n)) begins (n, comes, refl)
@@ -406,7 +433,8 @@ no_chunk limit p part front c n comes is other =
     cc
 
 -- chunks that end where no further one stands are all
-Chunks-unique : (limit : ℕ) (p : Progress) (cs ds : List (List ℕ)) (q w : Progress) (part other : Part) (front last : BodyFront)
+Chunks-unique : (limit : ℕ) (p : Progress) (cs ds : List (List ℕ)) (q w : Progress) (part other : Part)
+    (front last : BodyFront)
     → Chunks limit p cs q → Chunks limit p ds w → Comes limit q part → front_of q part ≡ Some front
     → Comes limit w other → front_of w other ≡ Some last → w ≡ q
 Chunks-unique limit p [] [] q w part other front last x y comes is also has = y ∙ sym x
@@ -425,17 +453,20 @@ Chunks-unique limit p (c ∷ cs) (d ∷ ds) q w part other front last x y comes 
     Chunks-unique limit (past_chunk p c x.0) cs ds q w part other front last x.2
     (subst (λ (z : Progress). Chunks limit z ds w) behind y.2) comes is also has
 
-pub IsChunked-unique : (limit : ℕ) (bytes : List ℕ) (a b : BodyFront) → IsChunked limit bytes a → IsChunked limit bytes b
+pub IsChunked-unique : (limit : ℕ) (bytes : List ℕ) (a b : BodyFront) → IsChunked limit bytes a
+    → IsChunked limit bytes b
     → a ≡ b
 IsChunked-unique limit bytes a b x y =
-    let places : y.progress ≡ x.progress = Chunks-unique limit (begun bytes) x.chunks y.chunks x.progress y.progress x.part y.part a b
+    let places : y.progress ≡ x.progress =
+    Chunks-unique limit (begun bytes) x.chunks y.chunks x.progress y.progress x.part y.part a b
     x.begins y.begins x.comes x.is y.comes y.is in
     let parts : y.part ≡ x.part = Comes-unique limit x.progress y.part x.part
     (subst (λ (z : Progress). Comes limit z y.part) places y.comes) x.comes in
     let fronts : Some a ≡ Some b = sym x.is ∙ ap₂ front_of (sym places) (sym parts) ∙ y.is in
     cc
 
-settled_part : (p : Progress) (part : Part) (front : BodyFront) → front_of p part ≡ Some front → is_settled_body front ≡ true
+settled_part : (p : Progress) (part : Part) (front : BodyFront) → front_of p part ≡ Some front
+    → is_settled_body front ≡ true
     → is_settled_part part ≡ true
 settled_part p (chunk c n) front is settled = refl
 settled_part p (last_chunk n) front is settled = refl
@@ -458,7 +489,8 @@ IsChunked-append limit bytes more front settled is = record {
   is = front_of-more is.progress more is.part ∙ is.is;
 }
 
-whole_length : (limit : ℕ) (bytes : List ℕ) (p : Progress) (part : Part) (body : List ℕ) (n : ℕ) → p.at + length p.ahead ≡ length bytes
+whole_length : (limit : ℕ) (bytes : List ℕ) (p : Progress) (part : Part) (body : List ℕ) (n : ℕ)
+    → p.at + length p.ahead ≡ length bytes
     → Comes limit p part → front_of p part ≡ Some (complete body n) → n ≤ length bytes
 whole_length limit bytes p (chunk c m) body n all comes is = absurd (cc)
 whole_length limit bytes p (lacking lack) body n all comes is = absurd (cc)
@@ -466,7 +498,8 @@ whole_length limit bytes p (last_chunk m) body n all comes is =
     let total : p.at + m ≡ n = cc in
     omega (arith, IsPart-last_length limit (length p.body) p.ahead m comes)
 
-pub IsChunked-length : (limit : ℕ) (bytes body : List ℕ) (n : ℕ) → IsChunked limit bytes (complete body n) → n ≤ length bytes
+pub IsChunked-length : (limit : ℕ) (bytes body : List ℕ) (n : ℕ) → IsChunked limit bytes (complete body n)
+    → n ≤ length bytes
 IsChunked-length limit bytes body n is =
     let all : is.progress.at + length is.progress.ahead ≡ 0 + length bytes =
     Chunks-length limit (begun bytes) is.chunks is.progress is.begins in

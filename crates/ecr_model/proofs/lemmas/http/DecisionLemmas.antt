@@ -33,7 +33,12 @@ Then_decided {A} {B} {G} {H} det first next = record { decide = λ text. front t
         → Begins (Then G H) text ⊎ ¬ (Begins (Then G H) text)
     behind text x (inl y) = inl ((x.0, y.0), y.1, (x.1, x.2, y.2))
     behind text x (inr none) = inr λ z.
-        none (z.0.1, z.1, subst (λ (m : List ℕ). H z.0.1 m z.1) (det.unique z.0.0 x.0 text z.2.0 x.1 z.2.1 x.2).1 z.2.2)
+        none (
+          z.0.1,
+          z.1,
+          subst (λ (m : List ℕ). H z.0.1 m z.1)
+              (det.unique z.0.0 x.0 text z.2.0 x.1 z.2.1 x.2).1 z.2.2,
+        )
 
     front : (text : List ℕ) → Begins G text ⊎ ¬ (Begins G text) → Begins (Then G H) text ⊎ ¬ (Begins (Then G H) text)
     front text (inl x) = behind text x (next.decide x.1)
@@ -83,7 +88,8 @@ version text = by (starts (print_version 0) text) (starts (print_version 1) text
     neither a b (suc (suc k)) rest few is = omega arith
 
     by : Starts (print_version 0) text ⊎ ¬ (Starts (print_version 0) text)
-        → Starts (print_version 1) text ⊎ ¬ (Starts (print_version 1) text) → Begins Version text ⊎ ¬ (Begins Version text)
+        → Starts (print_version 1) text ⊎ ¬ (Starts (print_version 1) text) → Begins Version text
+        ⊎ ¬ (Begins Version text)
     by (inl x) y = inl (0, x.0, (omega arith, x.1))
     by (inr a) (inl y) = inl (1, y.0, (omega arith, y.1))
     by (inr a) (inr b) = inr (λ z. neither a b z.0 z.1 z.2.0 z.2.1)
@@ -106,7 +112,8 @@ stops_or test (b ∷ text) = by (test b) refl
     by true passes = inr (λ fails. both_ways (test b) fails passes)
     by false fails = inl fails
 
-blank_step : (text : List ℕ) → ((rest : List ℕ) → length rest < length text → Begins Blank rest ⊎ ¬ (Begins Blank rest))
+blank_step : (text : List ℕ) →
+    ((rest : List ℕ) → length rest < length text → Begins Blank rest ⊎ ¬ (Begins Blank rest))
     → Begins Blank text ⊎ ¬ (Begins Blank text)
 blank_step text shorter = by (newline text)
   where
@@ -123,7 +130,11 @@ blank_step text shorter = by (newline text)
     behind e rest is (inl x) = inl (
       e ∷ x.0,
       x.1,
-      (is ∙ ap (λ (t : List ℕ). print_end e ++ t) x.2.0 ∙ sym (append_assoc (print_end e) (print_blank x.0) x.1), x.2.1),
+      (
+        is ∙ ap (λ (t : List ℕ). print_end e ++ t) x.2.0
+            ∙ sym (append_assoc (print_end e) (print_blank x.0) x.1),
+        x.2.1,
+      ),
     )
     behind e rest is (inr none) = inr (λ z. other_rest e rest is none z.0 z.1 z.2.0 z.2.1)
 
@@ -208,13 +219,15 @@ Method_decided = record { decide = word is_token_byte 32 space_ends_token }
 target : (text : List ℕ) → Begins Target text ⊎ ¬ (Begins Target text)
 target text = by (word is_uri_byte 32 refl text)
   where
-    read : (x : Begins (Word is_uri_byte 32) text) (t : Bool) → is_utf8 x.0 ≡ t → Begins Target text ⊎ ¬ (Begins Target text)
+    read : (x : Begins (Word is_uri_byte 32) text) (t : Bool) → is_utf8 x.0 ≡ t → Begins Target text
+        ⊎ ¬ (Begins Target text)
     read x true is = inl (x.0, x.1, (x.2, IsUtf8-from_is_utf8 x.0 is))
     read x false not_text = inr λ z.
         let same = (Word_deterministic is_uri_byte 32 refl).unique z.0 x.0 text z.1 x.1 z.2.0 x.2 in
         both_ways (is_utf8 x.0) not_text (is_utf8-from_IsUtf8 x.0 (subst IsUtf8 same.0 z.2.1))
 
-    by : Begins (Word is_uri_byte 32) text ⊎ ¬ (Begins (Word is_uri_byte 32) text) → Begins Target text ⊎ ¬ (Begins Target text)
+    by : Begins (Word is_uri_byte 32) text ⊎ ¬ (Begins (Word is_uri_byte 32) text) → Begins Target text
+        ⊎ ¬ (Begins Target text)
     by (inl x) = read x (is_utf8 x.0) refl
     by (inr none) = inr (λ z. none (z.0, z.1, z.2.0))
 
@@ -231,7 +244,8 @@ value_text [] = inr (λ z. nothing z.0.0 z.0.1 z.1 z.2.1)
 value_text (b ∷ text) = by (newline (b ∷ text)) (is_value_byte b) refl (value_text text)
   where
     none_at : ¬ (Begins Newline (b ∷ text)) → (is_value_byte b ≡ true → ¬ (Begins Text text))
-        → (w : List ℕ) (e : LineEnd) (rest : List ℕ) → AllPass is_value_byte w → b ∷ text ≡ w ++ (print_end e ++ rest) → ⊥
+        → (w : List ℕ) (e : LineEnd) (rest : List ℕ) → AllPass is_value_byte w → b ∷ text ≡ w ++ (print_end e ++ rest)
+        → ⊥
     none_at no_end later [] e rest all is = no_end (e, rest, is)
     none_at no_end later (x ∷ w) e rest all is =
         let same : b ≡ x = cc in
@@ -310,7 +324,8 @@ section_step text shorter = by (newline text) (field_line text)
 
 pub Section_decided : IsDecided Section
 Section_decided = record {
-  decide = λ text. by_length (λ t. Begins Section t ⊎ ¬ (Begins Section t)) section_step (length text) text (omega arith);
+  decide = λ text. by_length (λ t. Begins Section t ⊎ ¬ (Begins Section t)) section_step (length text) text
+      (omega arith);
 }
 
 -- ---- a request's head
@@ -378,8 +393,10 @@ extension text = by (starts (print_end crlf) text) (starts (59 ∷ []) text)
     neither no_end none None rest is = no_end (rest, is.1)
     neither no_end none (Some x) rest is = none x rest is.0 is.1
 
-    ended : ¬ (Starts (print_end crlf) text) → (t : List ℕ) → text ≡ 59 ∷ t → (w r : List ℕ) → AllPass is_extension_byte w
-        → t ≡ w ++ 13 ∷ r → Starts (10 ∷ []) r ⊎ ¬ (Starts (10 ∷ []) r) → Begins Extension text ⊎ ¬ (Begins Extension text)
+    ended : ¬ (Starts (print_end crlf) text) → (t : List ℕ) → text ≡ 59 ∷ t → (w r : List ℕ)
+        → AllPass is_extension_byte w
+        → t ≡ w ++ 13 ∷ r → Starts (10 ∷ []) r ⊎ ¬ (Starts (10 ∷ []) r) → Begins Extension text
+        ⊎ ¬ (Begins Extension text)
     ended no_end t first w r all is (inl x) = inl (
       Some w,
       x.0,

@@ -43,7 +43,8 @@ IsEnd-positive limit bytes (suc n) is = omega arith
 
 pub IsEnd-unique : (limit : ℕ) (bytes : List ℕ) (n m : ℕ) → IsEnd limit bytes n → IsEnd limit bytes m → n ≡ m
 IsEnd-unique limit bytes n m a b = ⊎_elim (λ same. same)
-    (⊎_elim (λ below. absurd (both_ways _ (b.first n below) a.ends)) (λ above. absurd (both_ways _ (a.first m above) b.ends)))
+    (⊎_elim (λ below. absurd (both_ways _ (b.first n below) a.ends))
+    (λ above. absurd (both_ways _ (a.first m above) b.ends)))
     (cases_order n m)
 
 pub EndsAt-unique : (limit : ℕ) (bytes : List ℕ) (a b : Option ℕ) → EndsAt limit bytes a → EndsAt limit bytes b → a ≡ b

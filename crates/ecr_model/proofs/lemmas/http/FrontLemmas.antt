@@ -118,7 +118,8 @@ sized-append limit size bytes more true false fit come settled =
     sym (ap is_settled_body (sized-open limit size bytes fit come)) ∙ settled in
     absurd (cc)
 
-pub IsBody-append : (limit : ℕ) (bytes more : List ℕ) (framing : Framing) (body : BodyFront) → is_settled_body body ≡ true
+pub IsBody-append : (limit : ℕ) (bytes more : List ℕ) (framing : Framing) (body : BodyFront)
+    → is_settled_body body ≡ true
     → IsBody limit bytes framing body → IsBody limit (bytes ++ more) framing body
 IsBody-append limit bytes more (Sized size) body settled is =
     is ∙ sized-append limit size bytes more (nat_le size limit) (nat_le size (length bytes)) refl refl
@@ -149,7 +150,8 @@ IsFramed-unique : (at : ℕ) (bytes : List ℕ) (n : ℕ) (head : Head) (framing
     → IsFramed at bytes n head framing f → IsFramed at bytes n head framing g → f ≡ g
 IsFramed-unique at bytes n head None f g a b = a ∙ sym b
 IsFramed-unique at bytes n head (Some framing) f g a b =
-    a.2 ∙ ap (with_body at n head) (IsBody-unique (max_body head.target) (drop n bytes) framing a.0 b.0 a.1 b.1) ∙ sym b.2
+    a.2 ∙ ap (with_body at n head) (IsBody-unique (max_body head.target) (drop n bytes) framing a.0 b.0 a.1 b.1)
+    ∙ sym b.2
 
 IsHeaded-unique : (at : ℕ) (bytes : List ℕ) (end : Option ℕ) (head : Option Head) (f g : Front)
     → IsHeaded at bytes end head f → IsHeaded at bytes end head g → f ≡ g
@@ -181,7 +183,8 @@ framed_length at bytes end head (Some framing) r n ends is = by_body is.0 is.1 i
     by_body : (body : BodyFront) → IsBody (max_body head.target) (drop end bytes) framing body
         → whole r n ≡ with_body at end head body → (0 < n) × (n ≤ length bytes)
     by_body (complete content size) stands same =
-        let within : size ≤ length (drop end bytes) = IsBody-length (max_body head.target) (drop end bytes) framing content size stands in
+        let within : size ≤ length (drop end bytes) =
+        IsBody-length (max_body head.target) (drop end bytes) framing content size stands in
         let some : 0 < end = IsEnd-positive max_head bytes end ends in
         let total : n ≡ end + size = cc in
         (omega arith, omega (arith, ends.within, length-drop end bytes))
@@ -191,7 +194,8 @@ headed_length : (at : ℕ) (bytes : List ℕ) (end : Option ℕ) (head : Option 
     → EndsAt max_head bytes end → IsHeaded at bytes end head (whole r n) → (0 < n) × (n ≤ length bytes)
 headed_length at bytes None head r n ends is = absurd (cc)
 headed_length at bytes (Some end) None r n ends is = absurd (cc)
-headed_length at bytes (Some end) (Some head) r n ends is = framed_length at bytes end head (framing_of head) r n ends is
+headed_length at bytes (Some end) (Some head) r n ends is =
+    framed_length at bytes end head (framing_of head) r n ends is
 
 pub IsFront-whole_length : (at : ℕ) (bytes : List ℕ) (r : Request) (n : ℕ) → IsFront at bytes (whole r n)
     → (0 < n) × (n ≤ length bytes)

@@ -13,14 +13,17 @@ use Rattle.ecr_model.proofs.lemmas.http.ChunkLemmas.{IsPart-by}
 pub IsPart-open_line : (limit so_far : ℕ) (bytes : List ℕ) → line_end bytes ≡ None → length bytes < max_chunk_line
     → IsPart limit so_far bytes (lacking open_)
 IsPart-open_line limit so_far bytes ends few =
-    IsPart-by limit so_far bytes None None (lacking open_) ends refl (rw (lt-ltb (length bytes) max_chunk_line few) refl)
+    IsPart-by limit so_far bytes None None (lacking open_) ends refl
+    (rw (lt-ltb (length bytes) max_chunk_line few) refl)
 
 pub IsPart-long_line : (limit so_far : ℕ) (bytes : List ℕ) → line_end bytes ≡ None → max_chunk_line ≤ length bytes
     → IsPart limit so_far bytes (lacking bad)
 IsPart-long_line limit so_far bytes ends long =
-    IsPart-by limit so_far bytes None None (lacking bad) ends refl (rw (le-ltb (length bytes) max_chunk_line long) refl)
+    IsPart-by limit so_far bytes None None (lacking bad) ends refl
+    (rw (le-ltb (length bytes) max_chunk_line long) refl)
 
-pub IsPart-no_size : (limit so_far : ℕ) (bytes : List ℕ) (n : ℕ) → line_end bytes ≡ Some n → Says (take (suc n) bytes) None
+pub IsPart-no_size : (limit so_far : ℕ) (bytes : List ℕ) (n : ℕ) → line_end bytes ≡ Some n
+    → Says (take (suc n) bytes) None
     → IsPart limit so_far bytes (lacking bad)
 IsPart-no_size limit so_far bytes n ends says = IsPart-by limit so_far bytes (Some n) None (lacking bad) ends says refl
 
@@ -36,7 +39,8 @@ IsPart-sized : (limit so_far : ℕ) (bytes : List ℕ) (n size : ℕ) (part : Pa
     → Says (take (suc n) bytes) (Some size) → 0 < size
     → part ≡ if_within limit so_far size (chunk_of (suc n) (drop (suc n) bytes) size) → IsPart limit so_far bytes part
 IsPart-sized limit so_far bytes n size part ends says some is =
-    IsPart-by limit so_far bytes (Some n) (Some size) part ends says (IsSaid-some limit so_far bytes n size part some is)
+    IsPart-by limit so_far bytes (Some n) (Some size) part ends says
+    (IsSaid-some limit so_far bytes n size part some is)
 
 pub IsPart-over : (limit so_far : ℕ) (bytes : List ℕ) (n size : ℕ) → line_end bytes ≡ Some n
     → Says (take (suc n) bytes) (Some size) → 0 < size → limit < so_far + size
@@ -59,7 +63,8 @@ pub IsPart-data : (limit so_far : ℕ) (bytes : List ℕ) (n size : ℕ) (came r
 IsPart-data limit so_far bytes n size came rest ends says some within behind count =
     IsPart-within limit so_far bytes n size (if_crlf (chunk came (suc n + size + 2)) rest) ends says some within
     (ap₂ (λ (c r : List ℕ). if_crlf (chunk c (suc n + size + 2)) r)
-    (ap₂ take (sym count) behind ∙ take-append_seam came rest) (ap₂ drop (sym count) behind ∙ drop-append_seam came rest))
+    (ap₂ take (sym count) behind ∙ take-append_seam came rest)
+    (ap₂ drop (sym count) behind ∙ drop-append_seam came rest))
 
 -- data is due
 pub IsPart-open_data : (limit so_far : ℕ) (bytes : List ℕ) (n size : ℕ) → line_end bytes ≡ Some n
@@ -94,11 +99,13 @@ IsPart-long_trailers limit so_far bytes n ends says none_ends long =
 -- ---- the body
 
 -- what comes behind chunks is what is left of the bytes
-pub Chunks-ahead : (limit : ℕ) (bytes : List ℕ) (p : Progress) (cs : List (List ℕ)) (q : Progress) → p.ahead ≡ drop p.at bytes
+pub Chunks-ahead : (limit : ℕ) (bytes : List ℕ) (p : Progress) (cs : List (List ℕ)) (q : Progress)
+    → p.ahead ≡ drop p.at bytes
     → Chunks limit p cs q → q.ahead ≡ drop q.at bytes
 Chunks-ahead limit bytes p [] q ahead begins = subst (λ (x : Progress). x.ahead ≡ drop x.at bytes) (sym begins) ahead
 Chunks-ahead limit bytes p (c ∷ cs) q ahead begins =
-    Chunks-ahead limit bytes (past_chunk p c begins.0) cs q (ap (drop begins.0) ahead ∙ drop-drop begins.0 p.at bytes) begins.2
+    Chunks-ahead limit bytes (past_chunk p c begins.0) cs q
+    (ap (drop begins.0) ahead ∙ drop-drop begins.0 p.at bytes) begins.2
 
 pub IsChunked-lacks : (limit : ℕ) (bytes : List ℕ) (cs : List (List ℕ)) (p : Progress) (lack : Lack)
     → Chunks limit (begun bytes) cs p → Comes limit p (lacking lack) → IsChunked limit bytes (lacks lack)
@@ -106,6 +113,7 @@ IsChunked-lacks limit bytes cs p lack begins comes =
     record { chunks = cs; progress = p; part = lacking lack; begins = begins; comes = comes; is = refl }
 
 pub IsChunked-whole : (limit : ℕ) (bytes : List ℕ) (cs : List (List ℕ)) (p : Progress) (n : ℕ)
-    → Chunks limit (begun bytes) cs p → Comes limit p (last_chunk n) → IsChunked limit bytes (complete p.body (p.at + n))
+    → Chunks limit (begun bytes) cs p → Comes limit p (last_chunk n)
+    → IsChunked limit bytes (complete p.body (p.at + n))
 IsChunked-whole limit bytes cs p n begins comes =
     record { chunks = cs; progress = p; part = last_chunk n; begins = begins; comes = comes; is = refl }

@@ -40,7 +40,8 @@ find_end bytes (suc n) = by (find_end bytes n) (ends_empty bytes (suc n)) refl
     by (inr x) t is = inr (x.0, omega (arith, x.1), x.2, x.3)
     by (inl none) true is = inr (suc n, omega arith, is, λ j less. none j (omega arith))
     by (inl none) false is = inl λ k few. ⊎_elim
-        (λ (same : k ≡ suc n). ap (ends_empty bytes) same ∙ is) (λ (other : k ≡ suc n → ⊥). none k (omega arith)) (cases_eq k (suc n))
+        (λ (same : k ≡ suc n). ap (ends_empty bytes) same ∙ is) (λ (other : k ≡ suc n → ⊥). none k (omega arith))
+        (cases_eq k (suc n))
 
 EndsAt-some : (limit : ℕ) (bytes : List ℕ) → (end : Option ℕ) × EndsAt limit bytes end
 EndsAt-some limit bytes = by (find_end bytes (min (length bytes) limit))
@@ -56,13 +57,15 @@ EndsAt-some limit bytes = by (find_end bytes (min (length bytes) limit))
 Parses-some : (bytes : List ℕ) → (head : Option Head) × Parses bytes head
 Parses-some bytes = by (RequestHead_decided.decide bytes)
   where
-    read : (t : RequestTree) (rest : List ℕ) → Then RequestStart Section t bytes rest → (head : Option Head) × Parses bytes head
+    read : (t : RequestTree) (rest : List ℕ) → Then RequestStart Section t bytes rest → (head : Option Head)
+        × Parses bytes head
     read t [] is = (Some (head_of (request_head t)), (request_head t, request_from_pieces bytes t [] is, refl))
     read t (b ∷ rest) is = (
       None,
       λ grammar reads.
           let same : (b ∷ rest) ≡ [] =
-          (request_unique bytes (request_head t) grammar (b ∷ rest) [] (request_from_pieces bytes t (b ∷ rest) is) reads).1 in
+          (request_unique bytes (request_head t) grammar (b ∷ rest) []
+          (request_from_pieces bytes t (b ∷ rest) is) reads).1 in
           cc,
     )
 
@@ -80,7 +83,8 @@ ParsesTo-some bytes (Some n) = Parses-some (take n bytes)
 Says-some : (line : List ℕ) → (size : Option ℕ) × Says line size
 Says-some line = by (Chunk_decided.decide line)
   where
-    read : (t : List ℕ × (List ℕ × Option (List ℕ))) (rest : List ℕ) → Chunk t line rest → (size : Option ℕ) × Says line size
+    read : (t : List ℕ × (List ℕ × Option (List ℕ))) (rest : List ℕ) → Chunk t line rest → (size : Option ℕ)
+        × Says line size
     read t [] is = (Some (chunk_size (chunk_line t)), (chunk_line t, chunk_from_pieces line t [] is, refl))
     read t (b ∷ rest) is = (
       None,
@@ -98,15 +102,18 @@ SaysAt-some : (bytes : List ℕ) (end : Option ℕ) → (size : Option ℕ) × S
 SaysAt-some bytes None = (None, refl)
 SaysAt-some bytes (Some n) = Says-some (take (suc n) bytes)
 
-IsSaid-some : (limit so_far : ℕ) (bytes : List ℕ) (n : ℕ) (size : Option ℕ) → (part : Part) × IsSaid limit so_far bytes n size part
+IsSaid-some : (limit so_far : ℕ) (bytes : List ℕ) (n : ℕ) (size : Option ℕ) → (part : Part)
+    × IsSaid limit so_far bytes n size part
 IsSaid-some limit so_far bytes n None = (lacking bad, refl)
 IsSaid-some limit so_far bytes n (Some zero) =
-    let ends : (end : Option ℕ) × EndsAt (1 + max_trailers) (drop n bytes) end = EndsAt-some (1 + max_trailers) (drop n bytes) in
+    let ends : (end : Option ℕ) × EndsAt (1 + max_trailers) (drop n bytes) end =
+    EndsAt-some (1 + max_trailers) (drop n bytes) in
     (last_of n (drop n bytes) ends.0, (ends.0, ends.1, refl))
 IsSaid-some limit so_far bytes n (Some (suc k)) =
     (if_within limit so_far (suc k) (chunk_of (suc n) (drop (suc n) bytes) (suc k)), refl)
 
-IsLined-some : (limit so_far : ℕ) (bytes : List ℕ) (end size : Option ℕ) → (part : Part) × IsLined limit so_far bytes end size part
+IsLined-some : (limit so_far : ℕ) (bytes : List ℕ) (end size : Option ℕ) → (part : Part)
+    × IsLined limit so_far bytes end size part
 IsLined-some limit so_far bytes None size = (_, refl)
 IsLined-some limit so_far bytes (Some n) size = IsSaid-some limit so_far bytes n size
 
@@ -121,7 +128,8 @@ abbrev ABody : ℕ → List ℕ → Type 0
 ABody limit bytes = (front : BodyFront) × IsChunked limit bytes front
 
 chunked_step : (limit : ℕ) (bytes : List ℕ) (cs : List (List ℕ)) (p : Progress) → Chunks limit (begun bytes) cs p
-    → ((ds : List (List ℕ)) (q : Progress) → length q.ahead < length p.ahead → Chunks limit (begun bytes) ds q → ABody limit bytes)
+    → ((ds : List (List ℕ)) (q : Progress) → length q.ahead < length p.ahead → Chunks limit (begun bytes) ds q
+    → ABody limit bytes)
     → (part : Part) → Comes limit p part → ABody limit bytes
 chunked_step limit bytes cs p begins deeper (chunk c n) comes =
     let some : 0 < n = IsPart-chunk_positive limit (length p.body) p.ahead c n comes in
@@ -158,7 +166,8 @@ IsFramed-some at bytes n head (Some framing) =
 
 IsHeaded-some : (at : ℕ) (bytes : List ℕ) (end : Option ℕ) (head : Option Head)
     → (front : Front) × IsHeaded at bytes end head front
-IsHeaded-some at bytes None head = (short false (if nat_lt (length bytes) max_head then open_ else too_long max_head), refl)
+IsHeaded-some at bytes None head =
+    (short false (if nat_lt (length bytes) max_head then open_ else too_long max_head), refl)
 IsHeaded-some at bytes (Some n) None = (short false bad, refl)
 IsHeaded-some at bytes (Some n) (Some head) = IsFramed-some at bytes n head (framing_of head)
 
@@ -177,8 +186,10 @@ past_blank-shortens p = omega (arith, length-drop (blank_length p.ahead) p.ahead
 abbrev AReading : List ℕ → Bool → Type 0
 AReading bytes over = (requests : List Request) × (tail : Tail) × Reads bytes over requests tail
 
-reads_step : (bytes : List ℕ) (over : Bool) (rs : List Request) (p : Point) → Begins (start bytes) rs p → p.closed ≡ false
-    → ((ss : List Request) (q : Point) → length q.ahead < length p.ahead → Begins (start bytes) ss q → AReading bytes over)
+reads_step : (bytes : List ℕ) (over : Bool) (rs : List Request) (p : Point) → Begins (start bytes) rs p
+    → p.closed ≡ false
+    → ((ss : List Request) (q : Point) → length q.ahead < length p.ahead → Begins (start bytes) ss q
+    → AReading bytes over)
     → (front : Front) → Meets p front → AReading bytes over
 reads_step bytes over rs p begins opened deeper (whole r n) meets =
     let some : (0 < n) × (n ≤ length (past_blank p).ahead) = Meets-length p r n meets in
@@ -198,7 +209,8 @@ reads_step bytes over rs p begins opened deeper (short due lack) meets =
     )
 
 reads_at : (bytes : List ℕ) (over : Bool) (rs : List Request) (p : Point) → Begins (start bytes) rs p
-    → ((ss : List Request) (q : Point) → length q.ahead < length p.ahead → Begins (start bytes) ss q → AReading bytes over)
+    → ((ss : List Request) (q : Point) → length q.ahead < length p.ahead → Begins (start bytes) ss q
+    → AReading bytes over)
     → (shut : Bool) → p.closed ≡ shut → AReading bytes over
 reads_at bytes over rs p begins deeper true shut =
     let tail : Tail = record { due = false; ending = closed } in (

@@ -73,20 +73,23 @@ past_blank-grown p others before =
     let blanks : blank_length (p.ahead ++ others) ≡ blank_length p.ahead = blank_length-append p.ahead others before in
     let all : blank_length p.ahead ≤ length p.ahead = omega arith in
     point_by (p.at + blank_length (p.ahead ++ others)) (p.at + blank_length p.ahead)
-    (drop (blank_length (p.ahead ++ others)) (p.ahead ++ others)) (drop (blank_length p.ahead) p.ahead ++ others) p.closed
+    (drop (blank_length (p.ahead ++ others)) (p.ahead ++ others))
+    (drop (blank_length p.ahead) p.ahead ++ others) p.closed
     (ap (λ (k : ℕ). p.at + k) blanks)
     (ap (λ (k : ℕ). drop k (p.ahead ++ others)) blanks ∙ drop-append-le (blank_length p.ahead) p.ahead others all)
 
 pub Meets-append : (p : Point) (others : List ℕ) (front : Front) → is_settled front ≡ true → Meets p front
     → Meets (grown p others) front
 Meets-append p others front settled meets =
-    subst (λ (q : Point). IsFront q.at q.ahead front) (sym (past_blank-grown p others (Meets-some p front settled meets)))
+    subst (λ (q : Point). IsFront q.at q.ahead front)
+    (sym (past_blank-grown p others (Meets-some p front settled meets)))
     (IsFront-append (past_blank p).at (past_blank p).ahead others front settled meets)
 
 pub Meets-unique : (p : Point) (f g : Front) → Meets p f → Meets p g → f ≡ g
 Meets-unique p f g a b = IsFront-unique (past_blank p).at (past_blank p).ahead f g a b
 
-pub Meets-length : (p : Point) (r : Request) (n : ℕ) → Meets p (whole r n) → (0 < n) × (n ≤ length (past_blank p).ahead)
+pub Meets-length : (p : Point) (r : Request) (n : ℕ) → Meets p (whole r n) → (0 < n)
+    × (n ≤ length (past_blank p).ahead)
 Meets-length p r n meets = IsFront-whole_length (past_blank p).at (past_blank p).ahead r n meets
 
 past-grown : (p : Point) (others : List ℕ) (r : Request) (n : ℕ) → Meets p (whole r n)
@@ -171,7 +174,8 @@ pub Begins-front : (p : Point) (over : Bool) (rs ss : List Request) (q w : Point
 Begins-front p over [] ss q w tail begins others stops =
     (ss, refl, subst (λ (x : Point). Begins x ss w) (sym begins) others)
 Begins-front p over (r ∷ rs) [] q w tail begins others stops =
-    absurd (Stops_not_whole over p tail r begins.1 (subst (λ (x : Point). Stops over x tail) others stops) begins.0 begins.2)
+    absurd (Stops_not_whole over p tail r begins.1
+    (subst (λ (x : Point). Stops over x tail) others stops) begins.0 begins.2)
 Begins-front p over (r ∷ rs) (s ∷ ss) q w tail begins others stops =
     let same : (s ≡ r) × (others.1 ≡ begins.1) = same_next p r s begins.1 others.1 begins.2 others.2 in
     let behind : past p s others.1 ≡ past p r begins.1 =
@@ -200,7 +204,8 @@ Reads-unique bytes over rs ss t u x y =
 
 -- ---- what the bytes show is last stays last
 
-last_settled : (over : Bool) (p : Point) (lack : Lack) → is_last (ending_of over p lack) ≡ true → is_settled_lack lack ≡ true
+last_settled : (over : Bool) (p : Point) (lack : Lack) → is_last (ending_of over p lack) ≡ true
+    → is_settled_lack lack ≡ true
 last_settled over p bad last = refl
 last_settled over p (too_long limit) last = refl
 last_settled false p open_ last = absurd (cc)
@@ -221,9 +226,11 @@ same_tail : (over late : Bool) (p : Point) (others : List ℕ) (due : Bool) (lac
     → tail_of late (past_blank (grown p others)) (short due lack) ≡ tail_of over (past_blank p) (short due lack)
 same_tail over late p others due lack settled blanks =
     ap (λ (q : Point). tail_of late q (short due lack)) blanks
-    ∙ ap (λ (e : Ending). Some (record { due = due; ending = e })) (same_ending over late (past_blank p) others lack settled)
+    ∙ ap (λ (e : Ending). Some (record { due = due; ending = e }))
+    (same_ending over late (past_blank p) others lack settled)
 
-lacks_stay : (over late : Bool) (p : Point) (others : List ℕ) (tail : Tail) (front : Front) → is_last tail.ending ≡ true
+lacks_stay : (over late : Bool) (p : Point) (others : List ℕ) (tail : Tail) (front : Front)
+    → is_last tail.ending ≡ true
     → Meets p front → tail_of over (past_blank p) front ≡ Some tail → Lacks late (grown p others) tail
 lacks_stay over late p others tail (whole r n) last meets is = absurd (cc)
 lacks_stay over late p others tail (short due lack) last meets is =
@@ -255,7 +262,8 @@ Reads-last bytes others over late rs tail last reads = record {
 
 pub a_cut_changes_nothing : ACutChangesNothing
 a_cut_changes_nothing bytes others over late rs all tail last reads whole_reads =
-    let front : (later : List Request) × (all ≡ rs ++ later) × Begins (grown reads.point others) later whole_reads.point =
+    let front : (later : List Request) × (all ≡ rs ++ later)
+    × Begins (grown reads.point others) later whole_reads.point =
     Begins-front (start (bytes ++ others)) late rs all (grown reads.point others) whole_reads.point last
     (Begins-append (start bytes) others rs reads.point reads.begins) whole_reads.begins whole_reads.stops in
     (front.0, front.1)

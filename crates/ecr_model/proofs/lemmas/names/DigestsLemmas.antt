@@ -127,7 +127,8 @@ encode_lower-decode_pairs i (a ∷ b ∷ rest) bytes h p =
 -- ---- texts
 
 -- what decoding into room answers is that of its pairs
-decode_sized-ok_pairs : (s : List ℕ) (bytes : List ℕ) → length s ≡ 64 → decode_sized s 32 ≡ Ok bytes → decode_pairs 0 s ≡ Ok bytes
+decode_sized-ok_pairs : (s : List ℕ) (bytes : List ℕ) → length s ≡ 64 → decode_sized s 32 ≡ Ok bytes
+    → decode_pairs 0 s ≡ Ok bytes
 decode_sized-ok_pairs s bytes len h =
     let even : (length s % 2 == 1) ≡ false = rw len refl in
     let half : (length s / 2 == 32) ≡ true = rw len refl in
@@ -139,7 +140,8 @@ decoded-some (Ok bytes) digest h = cc h
 decoded-some (Err e) digest h = cc h
 
 -- what was answered passed the test
-some_if : (b : Bool) (o : Option Digest) (digest : Digest) → (if b then o else None) ≡ Some digest → (b ≡ true) × (o ≡ Some digest)
+some_if : (b : Bool) (o : Option Digest) (digest : Digest) → (if b then o else None) ≡ Some digest → (b ≡ true)
+    × (o ≡ Some digest)
 some_if true o digest h = (refl, h)
 some_if false o digest h = cc h
 
@@ -147,19 +149,24 @@ some_if false o digest h = cc h
 pub digest_of-digest_text : (digest : Digest) → IsDigest digest → digest_of (digest_text digest) ≡ Some digest
 unfolding digest_of digest_text
 digest_of-digest_text digest h =
-    let len : length (encode_lower digest.bytes) ≡ 64 = length-encode_with lower_digits digest.bytes ∙ ap (λ n. 2 * n) h.size in
-    let whole : length (codes "sha256:" ++ encode_lower digest.bytes) ≡ 71 = length-append (codes "sha256:") (encode_lower digest.bytes) ∙ ap (λ n. 7 + n) len in
+    let len : length (encode_lower digest.bytes) ≡ 64 =
+    length-encode_with lower_digits digest.bytes ∙ ap (λ n. 2 * n) h.size in
+    let whole : length (codes "sha256:" ++ encode_lower digest.bytes) ≡ 71 =
+    length-append (codes "sha256:") (encode_lower digest.bytes) ∙ ap (λ n. 7 + n) len in
     let test : (length (codes "sha256:" ++ encode_lower digest.bytes) == 71) ≡ true = eq-eqb _ 71 whole in
     let plain = list_all-encode_lower digest.bytes h.bytes in
     let twice : length (encode_lower digest.bytes) ≡ 2 * 32 = len in
-    let value = decode_sized-twice (encode_lower digest.bytes) 32 twice ∙ decode_of-encode_lower digest.bytes h.bytes in
+    let value = decode_sized-twice (encode_lower digest.bytes) 32 twice
+    ∙ decode_of-encode_lower digest.bytes h.bytes in
     rw (test, plain, value) refl
 
 -- what is read is written so
-pub digest_text-digest_of : (text : List ℕ) (digest : Digest) → digest_of text ≡ Some digest → digest_text digest ≡ text
+pub digest_text-digest_of : (text : List ℕ) (digest : Digest) → digest_of text ≡ Some digest
+    → digest_text digest ≡ text
 unfolding digest_of digest_text
 digest_text-digest_of text digest h =
-    let p = some_if (length text == 71 && bytes_eq (take 7 text) (codes "sha256:")) (of_digits (drop 7 text)) digest h in
+    let p = some_if (length text == 71 && bytes_eq (take 7 text) (codes "sha256:"))
+    (of_digits (drop 7 text)) digest h in
     let t = and_parts (length text == 71) (bytes_eq (take 7 text) (codes "sha256:")) p.0 in
     let len = eqb-true (length text) 71 t.0 in
     let front : take 7 text ≡ codes "sha256:" = (bytes_eq-Decides (take 7 text) (codes "sha256:")).0 t.1 in

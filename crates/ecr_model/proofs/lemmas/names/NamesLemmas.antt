@@ -7,7 +7,8 @@ use Rattle.ecr_model.specs.names.Names.{is_alphanumeric, IsWord, IsJoint, dot, u
 
 -- ---- a name passes
 
-after_word-append : (word rest : List ℕ) → IsTrue (list_all is_alphanumeric word) → after_word (word ++ rest) ≡ after_word rest
+after_word-append : (word rest : List ℕ) → IsTrue (list_all is_alphanumeric word)
+    → after_word (word ++ rest) ≡ after_word rest
 after_word-append [] rest h = refl
 after_word-append (c ∷ word) rest h =
     let p = and_parts (is_alphanumeric c) (list_all is_alphanumeric word) h in
@@ -39,7 +40,8 @@ after_dash-dashes : (n : ℕ) (text : List ℕ) → IsTrue (at_word text) → Is
 after_dash-dashes zero text h = after_dash-at_word text h
 after_dash-dashes (suc n) text h = after_dash-dashes n text h
 
-after_word-joint : {joint : List ℕ} (text : List ℕ) → IsJoint joint → IsTrue (at_word text) → IsTrue (after_word (joint ++ text))
+after_word-joint : {joint : List ℕ} (text : List ℕ) → IsJoint joint → IsTrue (at_word text)
+    → IsTrue (after_word (joint ++ text))
 after_word-joint text dot h = h
 after_word-joint text underscore h = after_underscore-at_word text h
 after_word-joint text underscores h = h
@@ -63,7 +65,8 @@ IsWord-one c h = record { some = omega arith; plain = and_from (is_alphanumeric 
 IsWord-push : (word : List ℕ) (c : ℕ) → IsWord word → is_alphanumeric c ≡ true → IsWord (word ++ c ∷ [])
 IsWord-push word c h k = record {
   some = omega (arith, h.some, length-append word (c ∷ []));
-  plain = list_all-append is_alphanumeric word (c ∷ []) ∙ and_from _ _ h.plain (and_from (is_alphanumeric c) true k refl);
+  plain = list_all-append is_alphanumeric word (c ∷ [])
+      ∙ and_from _ _ h.plain (and_from (is_alphanumeric c) true k refl);
 }
 
 IsJoint-one : (c : ℕ) → (c == 46 || c == 47) ≡ true → IsJoint (c ∷ [])
@@ -86,32 +89,39 @@ mutual
   IsJoined-after_word : (text word : List ℕ) → IsWord word → IsTrue (after_word text) → IsJoined (word ++ text)
   IsJoined-after_word [] word w h = subst IsJoined (sym (append-nil word)) (alone w)
   IsJoined-after_word (c ∷ text) word w h = elim (branches (is_alphanumeric c) (after_word text) _ h) [
-    | inl e ↦ subst IsJoined (append_assoc word (c ∷ []) text) (IsJoined-after_word text (word ++ c ∷ []) (IsWord-push word c w e.0) e.1)
+    | inl e ↦ subst IsJoined (append_assoc word (c ∷ []) text)
+        (IsJoined-after_word text (word ++ c ∷ []) (IsWord-push word c w e.0) e.1)
     | inr k ↦ elim (branches (c == 46 || c == 47) (at_word text) _ k.1) [
       | inl e ↦ joined w (IsJoint-one c e.0) (IsJoined-at_word text e.1)
       | inr l ↦ elim (branches (c == 95) (after_underscore text) _ l.1) [
-        | inl e ↦ subst (λ b. IsJoined (word ++ b ∷ text)) (sym (eqb-true c 95 e.0)) (IsJoined-after_underscore text word w e.1)
+        | inl e ↦ subst (λ b. IsJoined (word ++ b ∷ text)) (sym (eqb-true c 95 e.0))
+            (IsJoined-after_underscore text word w e.1)
         | inr m ↦ elim (branches (c == 45) (after_dash text) false m.1) [
-          | inl e ↦ subst (λ b. IsJoined (word ++ b ∷ text)) (sym (eqb-true c 45 e.0)) (IsJoined-after_dash text 0 word w e.1)
+          | inl e ↦ subst (λ b. IsJoined (word ++ b ∷ text)) (sym (eqb-true c 45 e.0))
+              (IsJoined-after_dash text 0 word w e.1)
           | inr n ↦ absurd (false≢true n.1)
         ]
       ]
     ]
   ]
 
-  IsJoined-after_underscore : (text word : List ℕ) → IsWord word → IsTrue (after_underscore text) → IsJoined (word ++ 95 ∷ text)
+  IsJoined-after_underscore : (text word : List ℕ) → IsWord word → IsTrue (after_underscore text)
+      → IsJoined (word ++ 95 ∷ text)
   IsJoined-after_underscore [] word w h = absurd (false≢true h)
   IsJoined-after_underscore (c ∷ text) word w h = elim (branches (c == 95) (at_word text) _ h) [
-    | inl e ↦ subst (λ b. IsJoined (word ++ 95 ∷ b ∷ text)) (sym (eqb-true c 95 e.0)) (joined w underscores (IsJoined-at_word text e.1))
+    | inl e ↦ subst (λ b. IsJoined (word ++ 95 ∷ b ∷ text)) (sym (eqb-true c 95 e.0))
+        (joined w underscores (IsJoined-at_word text e.1))
     | inr k ↦ let p = and_parts (is_alphanumeric c) (after_word text) k.1 in
         joined w underscore (IsJoined-after_word text (c ∷ []) (IsWord-one c p.0) p.1)
   ]
 
-  IsJoined-after_dash : (text : List ℕ) (n : ℕ) (word : List ℕ) → IsWord word → IsTrue (after_dash text) → IsJoined (word ++ (replicate (suc n) 45 ++ text))
+  IsJoined-after_dash : (text : List ℕ) (n : ℕ) (word : List ℕ) → IsWord word → IsTrue (after_dash text)
+      → IsJoined (word ++ (replicate (suc n) 45 ++ text))
   IsJoined-after_dash [] n word w h = absurd (false≢true h)
   IsJoined-after_dash (c ∷ text) n word w h = elim (branches (c == 45) (after_dash text) _ h) [
     | inl e ↦ subst (λ b. IsJoined (word ++ (replicate (suc n) 45 ++ b ∷ text))) (sym (eqb-true c 45 e.0))
-        (subst (λ l. IsJoined (word ++ l)) (sym (dash_moves (suc n) text)) (IsJoined-after_dash text (suc n) word w e.1))
+        (subst (λ l. IsJoined (word ++ l)) (sym (dash_moves (suc n) text))
+        (IsJoined-after_dash text (suc n) word w e.1))
     | inr k ↦ let p = and_parts (is_alphanumeric c) (after_word text) k.1 in
         joined w (dashes n) (IsJoined-after_word text (c ∷ []) (IsWord-one c p.0) p.1)
   ]
@@ -134,4 +144,5 @@ is_name-IsName text = (there, back)
         }
 
     back : IsName text → IsTrue (is_name text)
-    back h = and_from _ _ (and_from _ _ (le-leb 2 (length text) h.at_least) (le-leb (length text) 256 h.at_most)) (at_word-joined h.form)
+    back h = and_from _ _ (and_from _ _ (le-leb 2 (length text) h.at_least) (le-leb (length text) 256 h.at_most))
+        (at_word-joined h.form)

@@ -22,7 +22,8 @@ is_region-IsRegion text = (there, back)
         record { at_least = leb-true 1 (length text) q.0; at_most = leb-true (length text) 32 q.1; plain = p.1 }
 
     back : IsRegion text → IsTrue (is_region text)
-    back h = and_from _ _ (and_from _ _ (le-leb 1 (length text) h.at_least) (le-leb (length text) 32 h.at_most)) h.plain
+    back h = and_from _ _ (and_from _ _ (le-leb 1 (length text) h.at_least)
+        (le-leb (length text) 32 h.at_most)) h.plain
 
 pub is_account-IsAccount : (text : List ℕ) → IsTrue (is_account text) ↔ IsAccount text
 is_account-IsAccount text = (there, back)
@@ -43,17 +44,21 @@ parts_at word k h = sym (take-append-drop k word) ∙ ap (λ l. take k word ++ l
 
 region_of-site : (region account : List ℕ) → length account ≡ 12 → region_of (region ++ (47 ∷ account)) ≡ region
 region_of-site region account h =
-    let e : length (region ++ (47 ∷ account)) - 13 ≡ length region = omega (arith, length-append region (47 ∷ account)) in
+    let e : length (region ++ (47 ∷ account)) - 13 ≡ length region =
+    omega (arith, length-append region (47 ∷ account)) in
     ap (λ n. take n (region ++ (47 ∷ account))) e ∙ take-append_seam region (47 ∷ account)
 
-slash-site : (region account : List ℕ) → length account ≡ 12 → get_or (region ++ (47 ∷ account)) (length (region ++ (47 ∷ account)) - 13) 0 ≡ 47
+slash-site : (region account : List ℕ) → length account ≡ 12
+    → get_or (region ++ (47 ∷ account)) (length (region ++ (47 ∷ account)) - 13) 0 ≡ 47
 slash-site region account h =
-    let e : length (region ++ (47 ∷ account)) - 13 ≡ length region = omega (arith, length-append region (47 ∷ account)) in
+    let e : length (region ++ (47 ∷ account)) - 13 ≡ length region =
+    omega (arith, length-append region (47 ∷ account)) in
     ap (λ n. get_or (region ++ (47 ∷ account)) n 0) e ∙ get_or-append_seam region 47 account 0
 
 account_of-site : (region account : List ℕ) → length account ≡ 12 → account_of (region ++ (47 ∷ account)) ≡ account
 account_of-site region account h =
-    let e : length (region ++ (47 ∷ account)) - 12 ≡ length (region ++ 47 ∷ []) = omega (arith, length-append region (47 ∷ account), length-append region (47 ∷ [])) in
+    let e : length (region ++ (47 ∷ account)) - 12 ≡ length (region ++ 47 ∷ []) =
+    omega (arith, length-append region (47 ∷ account), length-append region (47 ∷ [])) in
     ap (λ n. drop n (region ++ (47 ∷ account))) e
     ∙ ap (drop (length (region ++ 47 ∷ []))) (sym (append_assoc region (47 ∷ []) account))
     ∙ drop-append_seam (region ++ 47 ∷ []) account
@@ -66,7 +71,8 @@ parts_of word = record { region = region_of word; account = account_of word }
 ReadsSite-is_site_word : (word : List ℕ) → IsTrue (is_site_word word) → ReadsSite word (parts_of word)
 unfolding is_site_word
 ReadsSite-is_site_word word h =
-    let p = and_parts (is_region (region_of word) && get_or word (length word - 13) 0 == 47) (is_account (account_of word)) h in
+    let p = and_parts (is_region (region_of word) && get_or word (length word - 13) 0 == 47)
+    (is_account (account_of word)) h in
     let q = and_parts (is_region (region_of word)) (get_or word (length word - 13) 0 == 47) p.0 in
     let region = (is_region-IsRegion (region_of word)).0 q.0 in
     let some : 1 ≤ length (take (length word - 13) word) = region.at_least in
@@ -74,12 +80,14 @@ ReadsSite-is_site_word word h =
     let next : suc (length word - 13) ≡ length word - 12 = omega arith in
     record {
       spelled = parts_at word (length word - 13) (omega arith)
-          ∙ ap (λ b. region_of word ++ (b ∷ drop (suc (length word - 13)) word)) (eqb-true (get_or word (length word - 13) 0) 47 q.1)
+          ∙ ap (λ b. region_of word ++ (b ∷ drop (suc (length word - 13)) word))
+          (eqb-true (get_or word (length word - 13) 0) 47 q.1)
           ∙ ap (λ n. region_of word ++ (47 ∷ drop n word)) next;
       form = record { region_form = region; account_form = (is_account-IsAccount (account_of word)).0 p.1 };
     }
 
-site_of-parts : (region account : List ℕ) → IsRegion region → IsAccount account → site_of (region ++ (47 ∷ account)) ≡ Some (record { region = region; account = account })
+site_of-parts : (region account : List ℕ) → IsRegion region → IsAccount account
+    → site_of (region ++ (47 ∷ account)) ≡ Some (record { region = region; account = account })
 unfolding site_of is_site_word
 site_of-parts region account r a =
     let word = region ++ (47 ∷ account) in
@@ -87,7 +95,8 @@ site_of-parts region account r a =
     let ea = account_of-site region account a.long in
     cond-true (is_site_word word) _ _
     (and_from _ _
-    (and_from _ _ (ap is_region er ∙ (is_region-IsRegion region).1 r) (eq-eqb (get_or word (length word - 13) 0) 47 (slash-site region account a.long)))
+    (and_from _ _ (ap is_region er ∙ (is_region-IsRegion region).1 r)
+    (eq-eqb (get_or word (length word - 13) 0) 47 (slash-site region account a.long)))
     (ap is_account ea ∙ (is_account-IsAccount account).1 a))
     ∙ ap (λ l. Some (record { region = l; account = account_of word })) er
     ∙ ap (λ l. Some (record { region = region; account = l })) ea
@@ -102,7 +111,8 @@ site_of-ReadsSite word site = (there, back)
       | inl e ↦
           let same : parts_of word ≡ site = cc (cond-true (is_site_word word) (Some (parts_of word)) None e, h) in
           subst (ReadsSite word) same (ReadsSite-is_site_word word e)
-      | inr e ↦ let none : None ≡ Some site = sym (cond-false (is_site_word word) (Some (parts_of word)) None e) ∙ h in absurd (cc none)
+      | inr e ↦ let none : None ≡ Some site =
+          sym (cond-false (is_site_word word) (Some (parts_of word)) None e) ∙ h in absurd (cc none)
     ]
 
     back : ReadsSite word site → site_of word ≡ Some site
@@ -113,7 +123,8 @@ pub site_of-off : (word : List ℕ) → is_site_word word ≡ false → site_of 
 unfolding site_of
 site_of-off word h = cond-false (is_site_word word) (Some (parts_of word)) None h
 
-pub site_of-on : (word region account : List ℕ) → is_site_word word ≡ true → region ≡ region_of word → account ≡ account_of word → site_of word ≡ Some (record { region = region; account = account })
+pub site_of-on : (word region account : List ℕ) → is_site_word word ≡ true → region ≡ region_of word
+    → account ≡ account_of word → site_of word ≡ Some (record { region = region; account = account })
 unfolding site_of
 site_of-on word region account h r a =
     cond-true (is_site_word word) (Some (parts_of word)) None h
@@ -122,7 +133,8 @@ site_of-on word region account h r a =
 
 -- where the reader says none, the word reads as no site
 pub site_of-none : (word : List ℕ) → site_of word ≡ None → (site : SiteId) → ¬ (ReadsSite word site)
-site_of-none word e site r = let none : None ≡ Some site = sym e ∙ (site_of-ReadsSite word site).1 r in absurd (cc none)
+site_of-none word e site r =
+    let none : None ≡ Some site = sym e ∙ (site_of-ReadsSite word site).1 r in absurd (cc none)
 
 -- the word of a site reads as it
 pub site_of-site_word : (site : SiteId) → IsSite site → site_of (site_word site) ≡ Some site
@@ -132,7 +144,8 @@ site_of-site_word site h = (site_of-ReadsSite (site_word site) site).1 (record {
 
 pub utf8_or_empty-IsUtf8 : (text : List ℕ) → IsUtf8 text → utf8_or_empty text ≡ text
 unfolding utf8_or_empty
-utf8_or_empty-IsUtf8 text h = cond-true _ _ _ (eq-eqb (utf8_valid_len text) (length text) (utf8_valid_len-IsUtf8 text h))
+utf8_or_empty-IsUtf8 text h =
+    cond-true _ _ _ (eq-eqb (utf8_valid_len text) (length text) (utf8_valid_len-IsUtf8 text h))
 
 pub utf8_or_empty-short : (text : List ℕ) → utf8_valid_len text < length text → utf8_or_empty text ≡ []
 unfolding utf8_or_empty

@@ -45,7 +45,8 @@ same_site-same a b is =
     let parts = and_parts (bytes_eq a.region b.region) (bytes_eq a.account b.account) is in
     let region : a.region ≡ b.region = bytes_eq-same a.region b.region parts.0 in
     let account : a.account ≡ b.account = bytes_eq-same a.account b.account parts.1 in
-    ap (λ r. record { region = r; account = a.account }) region ∙ ap (λ t. record { region = b.region; account = t }) account
+    ap (λ r. record { region = r; account = a.account }) region
+    ∙ ap (λ t. record { region = b.region; account = t }) account
 
 -- so is a repository
 pub same_key-self : (a : RepoKey) → same_key a a ≡ true
@@ -56,4 +57,5 @@ same_key-same a b is =
     let parts = and_parts (bytes_eq a.name.text b.name.text) (same_site a.site b.site) is in
     let name : a.name.text ≡ b.name.text = bytes_eq-same a.name.text b.name.text parts.0 in
     let site : a.site ≡ b.site = same_site-same a.site b.site parts.1 in
-    ap (λ n. record { site = a.site; name = record { text = n } }) name ∙ ap (λ t. record { site = t; name = b.name }) site
+    ap (λ n. record { site = a.site; name = record { text = n } }) name
+    ∙ ap (λ t. record { site = t; name = b.name }) site

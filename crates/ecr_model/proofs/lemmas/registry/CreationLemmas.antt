@@ -29,7 +29,8 @@ entry_of moment mutability = record { moment = moment; act = Called (Create muta
 -- the line of a creation at the next ticket
 abbrev line_at : World → RepoKey → Option (List ℕ) → ℕ → Mutability → Line
 line_at world key given moment mutability =
-    steps.line_of 0 (steps.turn_of (next_ticket world (Repository key)) None (beside_of given moment)) (Create mutability)
+    steps.line_of 0 (steps.turn_of (next_ticket world (Repository key)) None (beside_of given moment))
+    (Create mutability)
 
 -- the two outcomes of a creation
 abbrev either : Bool → State → ℕ → Mutability → steps.Outcome
@@ -40,30 +41,39 @@ either present after moment mutability = if present
 -- one that is answered as made has its entry
 enters : (present : Bool) (after : State) (moment created : ℕ) (mutability shown : Mutability)
     → (either present after moment mutability).reply ≡ Created created shown
-    → option_map (λ s. entry_of moment mutability) (either present after moment mutability).after ≡ Some (entry_of moment mutability)
+    → option_map (λ s. entry_of moment mutability) (either present after moment mutability).after ≡ Some
+    (entry_of moment mutability)
 enters true after moment created mutability shown is = absurd (cc)
 enters false after moment created mutability shown is = refl
 
 -- the line of an entry stands behind the others
 stands : (realm : Realm) (world : World) (key : RepoKey) (entry : Option Entry) (e : Entry) → entry ≡ Some e
     → (entered realm world (Repository key) entry).journals (Repository key)
-    ≡ world.journals (Repository key) ++ record { ticket = next_ticket world (Repository key); caller = 0; entry = e } ∷ []
+    ≡ world.journals (Repository key) ++ record {
+      ticket = next_ticket world (Repository key);
+      caller = 0;
+      entry = e;
+    } ∷ []
 unfolding entered with_lines
 stands realm world key entry e is =
-    let lines = world.journals (Repository key) ++ record { ticket = next_ticket world (Repository key); caller = 0; entry = e } ∷ [] in
+    let lines = world.journals
+    (Repository key) ++ record { ticket = next_ticket world (Repository key); caller = 0; entry = e } ∷ [] in
     ap (λ o. (entered realm world (Repository key) o).journals (Repository key)) is
     ∙ ap (λ b. if b then lines else world.journals (Repository key)) (same_key-self key)
 
 -- the turn in the repository
-in_cell : (realm : Realm) (world : World) (key : RepoKey) (mutability shown : Mutability) (given : Option (List ℕ)) (moment created : ℕ)
+in_cell : (realm : Realm) (world : World) (key : RepoKey) (mutability shown : Mutability) (given : Option (List ℕ))
+    (moment created : ℕ)
     → (run realm world (cell_turn key (Create mutability) given moment)).answer.reply ≡ Created created shown
     → (run realm world (cell_turn key (Create mutability) given moment)).world.journals (Repository key)
     ≡ world.journals (Repository key) ++ line_at world key given moment mutability ∷ []
 unfolding run turn_at steps.step
 in_cell realm world key mutability shown given moment created is =
-    let s : State = steps.repository_at key realm.limits (world.journals (Repository key)) (next_ticket world (Repository key)) in
+    let s : State = steps.repository_at key realm.limits (world.journals (Repository key))
+    (next_ticket world (Repository key)) in
     let after : State = record s { present = Some (record { created = moment; mutability = mutability }) } in
-    stands realm world key (option_map (λ x. entry_of moment mutability) (either (is_some s.present) after moment mutability).after) (entry_of moment mutability)
+    stands realm world key (option_map (λ x. entry_of moment mutability)
+    (either (is_some s.present) after moment mutability).after) (entry_of moment mutability)
     (enters (is_some s.present) after moment created mutability shown is)
 
 -- a script that ends as refused isn't answered as made
@@ -80,9 +90,13 @@ directory_apart realm world site key None = refl
 directory_apart realm world site key (Some entry) = refl
 
 -- the name's registration leaves the repository's journal as it was, and refuses a creation where it is one too many
-after_name : (realm : Realm) (world : World) (key : RepoKey) (mutability shown : Mutability) (given : Option (List ℕ)) (moment created : ℕ) (r : Registered)
-    → (run realm (entered realm world (Directory key.site) (registers key.name r).entry) (then_cell key (Create mutability) given moment (registers key.name r).told)).answer.reply ≡ Created created shown
-    → (run realm (entered realm world (Directory key.site) (registers key.name r).entry) (then_cell key (Create mutability) given moment (registers key.name r).told)).world.journals (Repository key)
+after_name : (realm : Realm) (world : World) (key : RepoKey) (mutability shown : Mutability) (given : Option (List ℕ))
+    (moment created : ℕ) (r : Registered)
+    → (run realm (entered realm world (Directory key.site) (registers key.name r).entry)
+    (then_cell key (Create mutability) given moment (registers key.name r).told)).answer.reply
+    ≡ Created created shown
+    → (run realm (entered realm world (Directory key.site) (registers key.name r).entry)
+    (then_cell key (Create mutability) given moment (registers key.name r).told)).world.journals (Repository key)
     ≡ world.journals (Repository key) ++ line_at world key given moment mutability ∷ []
 unfolding then_cell
 after_name realm world key mutability shown given moment created New is =
@@ -95,11 +109,15 @@ after_name realm world key mutability shown given moment created Known is =
     in_cell realm mid key mutability shown given moment created is
     ∙ ap (λ ls. ls ++ steps.line_of 0 (steps.turn_of (past ls) None (beside_of given moment)) (Create mutability) ∷ [])
     (directory_apart realm world key.site key (registers key.name Known).entry)
-after_name realm world key mutability shown given moment created (Full limit count) is = absurd (ends_refused realm (entered realm world (Directory key.site) (registers key.name (Full limit count)).entry) (LimitExceeded limit count) created shown is)
+after_name realm world key mutability shown given moment created (Full limit count) is =
+    absurd (ends_refused realm
+    (entered realm world (Directory key.site) (registers key.name (Full limit count)).entry)
+    (LimitExceeded limit count) created shown is)
 
 pub a_creation_is_kept : ACreationIsKept
 unfolding call_script first_turn then_do run turn_at
 a_creation_is_kept realm world key mutability shown given moment created is =
     let frame = frame_of realm key.site in
-    let d = directories.directory_at frame (world.journals (Directory key.site)) (next_ticket world (Directory key.site)) in
+    let d = directories.directory_at frame (world.journals (Directory key.site))
+    (next_ticket world (Directory key.site)) in
     after_name realm world key mutability shown given moment created (directories.registration frame d key.name) is

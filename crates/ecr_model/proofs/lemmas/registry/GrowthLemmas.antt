@@ -31,7 +31,8 @@ pub Rises-higher : (low : ℕ) (ls : List Line) (high more : ℕ) → high ≤ m
 Rises-higher low [] high more le r = omega arith
 Rises-higher low (x ∷ ls) high more le r = (r.0, Rises-higher (suc x.ticket) ls high more le r.1)
 
-pub Rises-snoc : (low : ℕ) (ls : List Line) (l : Line) (high : ℕ) → l.ticket ≡ high → Rises low ls high → Rises low (ls ++ l ∷ []) (suc high)
+pub Rises-snoc : (low : ℕ) (ls : List Line) (l : Line) (high : ℕ) → l.ticket ≡ high → Rises low ls high
+    → Rises low (ls ++ l ∷ []) (suc high)
 Rises-snoc low [] l high e r = (omega arith, omega arith)
 Rises-snoc low (x ∷ ls) l high e r = (r.0, Rises-snoc (suc x.ticket) ls l high e r.1)
 
@@ -41,12 +42,14 @@ Rises-length low (x ∷ ls) high r = let h = Rises-length (suc x.ticket) ls high
 
 pub Rises-each : (low : ℕ) (ls : List Line) (high : ℕ) → Rises low ls high → Each (λ l. l.ticket < high) ls
 Rises-each low [] high r = tt
-Rises-each low (x ∷ ls) high r = (let h = Rises-length (suc x.ticket) ls high r.1 in omega arith, Rises-each (suc x.ticket) ls high r.1)
+Rises-each low (x ∷ ls) high r =
+    (let h = Rises-length (suc x.ticket) ls high r.1 in omega arith, Rises-each (suc x.ticket) ls high r.1)
 
 pub Grows-none : (caller past : ℕ) (log : List Line) → Grows caller past log log
 Grows-none caller past log = record { news = []; longer = sym (append-nil log); others = tt; later = tt }
 
-pub Grows-snoc : (caller past : ℕ) (before after : List Line) (l : Line) → Grows caller past before after → l.caller ≢ caller → past ≤ l.ticket → Grows caller past before (after ++ l ∷ [])
+pub Grows-snoc : (caller past : ℕ) (before after : List Line) (l : Line) → Grows caller past before after
+    → l.caller ≢ caller → past ≤ l.ticket → Grows caller past before (after ++ l ∷ [])
 Grows-snoc caller past before after l g other late = record {
   news = g.news ++ l ∷ [];
   longer = ap (λ (ys : List Line). ys ++ l ∷ []) g.longer ∙ append_assoc before g.news (l ∷ []);
@@ -55,10 +58,18 @@ Grows-snoc caller past before after l g other late = record {
 }
 
 -- a caller of whom no entry stands in the journal
-pub Grows-unnamed : (caller past n : ℕ) (before after : List Line) → Grows caller past before after → Each (λ l. l.caller ≢ n) after → Grows n past before after
-Grows-unnamed caller past n before after g all = record { news = g.news; longer = g.longer; others = Each-right (λ l. l.caller ≢ n) before g.news (subst (Each (λ l. l.caller ≢ n)) g.longer all); later = g.later }
+pub Grows-unnamed : (caller past n : ℕ) (before after : List Line) → Grows caller past before after
+    → Each (λ l. l.caller ≢ n) after → Grows n past before after
+Grows-unnamed caller past n before after g all =
+    record {
+      news = g.news;
+      longer = g.longer;
+      others = Each-right (λ l. l.caller ≢ n) before g.news (subst (Each (λ l. l.caller ≢ n)) g.longer all);
+      later = g.later;
+    }
 
-pub Grows-follows : (caller past : ℕ) (before after : List Line) → Grows caller past before after → Follows past before after
+pub Grows-follows : (caller past : ℕ) (before after : List Line) → Grows caller past before after
+    → Follows past before after
 Grows-follows caller past before after g = record { news = g.news; longer = g.longer; later = g.later }
 
 at_least_none : (ls : List Line) → Each (λ l. 0 ≤ l.ticket) ls
@@ -68,7 +79,8 @@ at_least_none (x ∷ ls) = (omega arith, at_least_none ls)
 pub Follows-first : (log : List Line) → Follows 0 [] log
 Follows-first log = record { news = log; longer = refl; later = at_least_none log }
 
-pub Follows-snoc : (past : ℕ) (before after : List Line) (l : Line) → Follows past before after → past ≤ l.ticket → Follows past before (after ++ l ∷ [])
+pub Follows-snoc : (past : ℕ) (before after : List Line) (l : Line) → Follows past before after → past ≤ l.ticket
+    → Follows past before (after ++ l ∷ [])
 Follows-snoc past before after l g late = record {
   news = g.news ++ l ∷ [];
   longer = ap (λ (ys : List Line). ys ++ l ∷ []) g.longer ∙ append_assoc before g.news (l ∷ []);

@@ -8,7 +8,8 @@ use Rattle.ecr_model.specs.laws.JournalLaws.{ReplayGoesOn, AFirstPartIsSound, AS
 
 module _ {S : Type 0} (after : S → Line → Option S) where
   -- a journal and further lines lead to what those make of its state
-  pub replay-append : (s : S) (lines news : List Line) → replay after s (lines ++ news) ≡ replay after (replay after s lines) news
+  pub replay-append : (s : S) (lines news : List Line)
+      → replay after s (lines ++ news) ≡ replay after (replay after s lines) news
   unfolding replay
   replay-append s [] news = refl
   replay-append s (l ∷ ls) news = replay-append (unwrap_or (after s l) s) ls news
@@ -20,14 +21,16 @@ module _ {S : Type 0} (after : S → Line → Option S) where
   replay-push s [] line = refl
   replay-push s (l ∷ ls) line = replay-push (unwrap_or (after s l) s) ls line
 
-  pub IsSoundFrom-first_part : (low : ℕ) (s : S) (lines news : List Line) → IsSoundFrom after low s (lines ++ news) → IsSoundFrom after low s lines
+  pub IsSoundFrom-first_part : (low : ℕ) (s : S) (lines news : List Line) → IsSoundFrom after low s (lines ++ news)
+      → IsSoundFrom after low s lines
   unfolding IsSoundFrom
   IsSoundFrom-first_part low s [] news sound = tt
   IsSoundFrom-first_part low s (l ∷ ls) news sound =
       (sound.0, (sound.1.0, sound.1.1, IsSoundFrom-first_part (suc l.ticket) sound.1.0 ls news sound.1.2))
 
   pub IsSoundFrom-push : (low : ℕ) (s : S) (lines : List Line) (line : Line) (next : S)
-      → IsSoundFrom after low s lines → past_from low lines ≤ line.ticket → after (replay after s lines) line ≡ Some next
+      → IsSoundFrom after low s lines → past_from low lines ≤ line.ticket
+      → after (replay after s lines) line ≡ Some next
       → IsSoundFrom after low s (lines ++ line ∷ [])
   unfolding IsSoundFrom replay
   IsSoundFrom-push low s [] line next sound later changes = (later, (next, changes, tt))
@@ -60,7 +63,8 @@ module _ {S : Type 0} (after : S → Line → Option S) where
       grind (arith, later, past, rest)
 
   -- of a sound journal that begins at a ticket or later no line is below it
-  pub below-late : (low : ℕ) (s : S) (lines : List Line) (ticket : ℕ) → IsSoundFrom after low s lines → ticket ≤ low → below ticket lines ≡ []
+  pub below-late : (low : ℕ) (s : S) (lines : List Line) (ticket : ℕ) → IsSoundFrom after low s lines → ticket ≤ low
+      → below ticket lines ≡ []
   unfolding IsSoundFrom
   below-late low s [] ticket sound late = refl
   below-late low s (l ∷ ls) ticket sound late =
@@ -77,12 +81,14 @@ module _ {S : Type 0} (after : S → Line → Option S) where
   between-late low s (l ∷ ls) ticket later sound late =
       let first : low ≤ l.ticket = sound.0 in
       let onward : ticket ≤ suc l.ticket = omega arith in
-      let rest : between ticket later ls ≡ below later ls = between-late (suc l.ticket) sound.1.0 ls ticket later sound.1.2 onward in
+      let rest : between ticket later ls ≡ below later ls =
+      between-late (suc l.ticket) sound.1.0 ls ticket later sound.1.2 onward in
       grind (arith, late, first, rest)
 
   -- the lines below a later ticket are those below an earlier one, and then those between the two
   pub below-between : (low : ℕ) (s : S) (lines : List Line) (ticket later : ℕ)
-      → IsSoundFrom after low s lines → ticket ≤ later → below later lines ≡ below ticket lines ++ between ticket later lines
+      → IsSoundFrom after low s lines → ticket ≤ later
+      → below later lines ≡ below ticket lines ++ between ticket later lines
   unfolding IsSoundFrom
   below-between low s [] ticket later sound order = refl
   below-between low s (l ∷ ls) ticket later sound order =
@@ -94,7 +100,8 @@ module _ {S : Type 0} (after : S → Line → Option S) where
       late past =
           let here : IsSoundFrom after l.ticket s (l ∷ ls) = (omega arith, sound.1) in
           let none : below ticket (l ∷ ls) ≡ [] = below-late l.ticket s (l ∷ ls) ticket here past in
-          let all : between ticket later (l ∷ ls) ≡ below later (l ∷ ls) = between-late l.ticket s (l ∷ ls) ticket later here past in
+          let all : between ticket later (l ∷ ls) ≡ below later (l ∷ ls) =
+          between-late l.ticket s (l ∷ ls) ticket later here past in
           sym all ∙ ap (λ ms. ms ++ between ticket later (l ∷ ls)) (sym none)
 
 -- no line at that ticket or later is below it
@@ -105,10 +112,12 @@ below-none (l ∷ ls) ticket late =
     let first : ticket ≤ l.ticket = All-head (λ m. ticket ≤ m.ticket) l ls late in
     grind (arith, rest, first)
 
-pub below-append : (lines news : List Line) (ticket : ℕ) → All (λ l. ticket ≤ l.ticket) news → below ticket (lines ++ news) ≡ below ticket lines
+pub below-append : (lines news : List Line) (ticket : ℕ) → All (λ l. ticket ≤ l.ticket) news
+    → below ticket (lines ++ news) ≡ below ticket lines
 below-append lines news ticket late =
     let none : below ticket news ≡ [] = below-none news ticket late in
-    filter-append (λ l. nat_lt l.ticket ticket) lines news ∙ (ap (λ ls. below ticket lines ++ ls) none ∙ append-nil (below ticket lines))
+    filter-append (λ l. nat_lt l.ticket ticket) lines news
+    ∙ (ap (λ ls. below ticket lines ++ ls) none ∙ append-nil (below ticket lines))
 
 module _ {S : Type 0} (after : S → Line → Option S) (first : S) where
   pub replay_goes_on : ReplayGoesOn after first
@@ -118,7 +127,8 @@ module _ {S : Type 0} (after : S → Line → Option S) (first : S) where
   a_first_part_is_sound lines news sound = IsSoundFrom-first_part after 0 first lines news sound
 
   pub a_sound_journal_grows : ASoundJournalGrows after first
-  a_sound_journal_grows lines line next sound later changes = IsSoundFrom-push after 0 first lines line next sound later changes
+  a_sound_journal_grows lines line next sound later changes =
+      IsSoundFrom-push after 0 first lines line next sound later changes
 
   pub what_was_stays : WhatWasStays after first
   what_was_stays lines news ticket late = ap (replay after first) (below-append lines news ticket late)

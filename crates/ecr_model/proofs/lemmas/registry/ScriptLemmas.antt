@@ -6,9 +6,11 @@ use Rattle.ecr_model.specs.declared.registry.journal.Place.{Place}
 use Rattle.ecr_model.specs.registry.Scripts.{Ask, Told, Script, ends, turn, then_do, Realm, World, Turned, run, run_to, next_turn, entered, place_of, count_of, count_changed, next_ticket}
 use Rattle.ecr_model.specs.laws.ScriptLaws.{RunsThen}
 
-pub run-then_do : {A B : Type 0} (realm : Realm) (world : World) (script : Script A) (next : A → Script B) → RunsThen realm world script next
+pub run-then_do : {A B : Type 0} (realm : Realm) (world : World) (script : Script A) (next : A → Script B)
+    → RunsThen realm world script next
 unfolding run then_do
-run-then_do realm world (ends a) next = record { world_is = refl; places_are = refl; entries_are = omega arith; answer_is = refl }
+run-then_do realm world (ends a) next =
+    record { world_is = refl; places_are = refl; entries_are = omega arith; answer_is = refl }
 run-then_do realm world (turn cell ask told) next =
     let turned : Turned = next_turn realm world cell ask in
     let rest = run-then_do realm (entered realm world cell turned.entry) (told turned.told) next in
@@ -20,7 +22,8 @@ run-then_do realm world (turn cell ask told) next =
     }
 
 -- where nothing is entered the world stays
-pub entered-none : (realm : Realm) (world : World) (cell : CellKey) (entry : Option Entry) → count_of entry ≤ 0 → entered realm world cell entry ≡ world
+pub entered-none : (realm : Realm) (world : World) (cell : CellKey) (entry : Option Entry) → count_of entry ≤ 0
+    → entered realm world cell entry ≡ world
 unfolding entered
 entered-none realm world cell None none = refl
 entered-none realm world cell (Some e) none = absurd (omega (arith, none))
@@ -35,7 +38,8 @@ run-none realm world (turn cell ask told) none =
     ∙ entered-none realm world cell turned.entry (omega (arith, none))
 
 -- up to no entry nothing changes
-pub run_to-none : {A : Type 0} (realm : Realm) (world : World) (script : Script A) → run_to 0 realm world script ≡ world
+pub run_to-none : {A : Type 0} (realm : Realm) (world : World) (script : Script A)
+    → run_to 0 realm world script ≡ world
 unfolding run_to
 run_to-none realm world (ends a) = refl
 run_to-none realm world (turn cell ask told) = refl
@@ -48,7 +52,8 @@ run_to-all n realm world (ends a) enough = refl
 run_to-all zero realm world (turn cell ask told) enough = sym (run-none realm world (turn cell ask told) enough)
 run_to-all (suc n) realm world (turn cell ask told) enough =
     let turned : Turned = next_turn realm world cell ask in
-    run_to-all (suc n - count_of turned.entry) realm (entered realm world cell turned.entry) (told turned.told) (omega (arith, enough))
+    run_to-all (suc n - count_of turned.entry) realm (entered realm world cell turned.entry) (told turned.told)
+    (omega (arith, enough))
 
 -- up to entries of the first script, the first script decides
 pub run_to-first : {A B : Type 0} (n : ℕ) (realm : Realm) (world : World) (script : Script A) (next : A → Script B)
@@ -59,17 +64,21 @@ run_to-first (suc n) realm world (ends a) next within = absurd (omega (arith, wi
 run_to-first zero realm world (turn cell ask told) next within = refl
 run_to-first (suc n) realm world (turn cell ask told) next within =
     let turned : Turned = next_turn realm world cell ask in
-    run_to-first (suc n - count_of turned.entry) realm (entered realm world cell turned.entry) (told turned.told) next (omega (arith, within))
+    run_to-first (suc n - count_of turned.entry) realm (entered realm world cell turned.entry) (told turned.told) next
+    (omega (arith, within))
 
 -- up to the entries of its first turn and others, a script goes on behind that turn
-pub run_to-turn : {A : Type 0} (k m : ℕ) (realm : Realm) (world : World) (cell : CellKey) (ask : Ask) (told : Told → Script A)
+pub run_to-turn : {A : Type 0} (k m : ℕ) (realm : Realm) (world : World) (cell : CellKey) (ask : Ask)
+    (told : Told → Script A)
     → k ≡ count_of (next_turn realm world cell ask).entry + m
     → run_to k realm world (turn cell ask told)
-    ≡ run_to m realm (entered realm world cell (next_turn realm world cell ask).entry) (told (next_turn realm world cell ask).told)
+    ≡ run_to m realm (entered realm world cell (next_turn realm world cell ask).entry)
+    (told (next_turn realm world cell ask).told)
 unfolding run_to
 run_to-turn zero m realm world cell ask told is =
     let turned : Turned = next_turn realm world cell ask in
-    let stays : entered realm world cell turned.entry ≡ world = entered-none realm world cell turned.entry (omega (arith, is)) in
+    let stays : entered realm world cell turned.entry ≡ world =
+    entered-none realm world cell turned.entry (omega (arith, is)) in
     let zero_is : 0 ≡ m = omega (arith, is) in
     subst (λ k. world ≡ run_to k realm (entered realm world cell turned.entry) (told turned.told)) zero_is
     (sym (run_to-none realm (entered realm world cell turned.entry) (told turned.told) ∙ stays))
@@ -86,13 +95,15 @@ run_to-then n realm world (ends a) next = ap (λ k. run_to k realm world (next a
 run_to-then n realm world (turn cell ask told) next =
     let turned : Turned = next_turn realm world cell ask in
     let rest = run realm (entered realm world cell turned.entry) (told turned.told) in
-    run_to-turn (count_of turned.entry + rest.entries + n) (rest.entries + n) realm world cell ask (λ t. then_do (told t) next) (omega arith)
+    run_to-turn (count_of turned.entry + rest.entries + n) (rest.entries + n) realm world cell ask
+    (λ t. then_do (told t) next) (omega arith)
     ∙ run_to-then n realm (entered realm world cell turned.entry) (told turned.told) next
 
 -- ---- places
 
 -- the places of two lists that say that an entry was added
-pub count_changed-append : (one other : List Place) → count_changed (one ++ other) ≡ count_changed one + count_changed other
+pub count_changed-append : (one other : List Place)
+    → count_changed (one ++ other) ≡ count_changed one + count_changed other
 count_changed-append [] other = omega arith
 count_changed-append (p ∷ ps) other = omega (arith, count_changed-append ps other)
 
@@ -108,4 +119,9 @@ unfolding run
 count_changed-run realm world (ends a) = refl
 count_changed-run realm world (turn cell ask told) =
     let turned : Turned = next_turn realm world cell ask in
-    omega (arith, count_of-place turned.entry, count_changed-run realm (entered realm world cell turned.entry) (told turned.told))
+    omega (
+      arith,
+      count_of-place turned.entry,
+      count_changed-run realm (entered realm world cell turned.entry)
+          (told turned.told),
+    )

@@ -41,20 +41,24 @@ same_cell-self (Repository k) = same_key-self k
 -- ---- one turn
 
 -- a registration keeps a directory's journal sound
-sound-registers : (realm : Realm) (lines : List Line) (caller ticket : ℕ) (frame : directories.SiteFrame) (name : _) (d : kept.Directory) (r : Registered)
-    → directories.IsSound frame lines → past lines ≤ ticket → d ≡ directories.replay frame lines → r ≡ registration frame d name
+sound-registers : (realm : Realm) (lines : List Line) (caller ticket : ℕ) (frame : directories.SiteFrame) (name : _)
+    (d : kept.Directory) (r : Registered)
+    → directories.IsSound frame lines → past lines ≤ ticket → d ≡ directories.replay frame lines
+    → r ≡ registration frame d name
     → directories.IsSound frame (lines_after caller ticket lines (registers name r).entry)
 unfolding directories.after_line
 sound-registers realm lines caller ticket frame name d New sound later now is =
     a_sound_journal_grows (directories.after_line frame) first_directory lines
     (record { ticket = ticket; caller = caller; entry = directories.entry_of (Register name) })
     (with_name name (directories.replay frame lines)) sound later
-    (ap (λ x. directories.registered name (directories.replay frame lines) x) (sym (is ∙ ap (λ x. registration frame x name) now)))
+    (ap (λ x. directories.registered name (directories.replay frame lines) x)
+    (sym (is ∙ ap (λ x. registration frame x name) now)))
 sound-registers realm lines caller ticket frame name d Known sound later now is = sound
 sound-registers realm lines caller ticket frame name d (Full limit count) sound later now is = sound
 
 -- a call keeps a repository's journal sound
-sound-replies : (key : _) (limits : _) (lines : List Line) (caller ticket : ℕ) (t : steps.Turn) (c : _) (s : stored.Repository) (o : Option stored.Repository)
+sound-replies : (key : _) (limits : _) (lines : List Line) (caller ticket : ℕ) (t : steps.Turn) (c : _)
+    (s : stored.Repository) (o : Option stored.Repository)
     → steps.IsSound key limits lines → past lines ≤ ticket → t.ticket ≡ ticket → s ≡ steps.replay key limits lines
     → o ≡ (steps.step key limits s t c).after
     → steps.IsSound key limits (lines_after caller ticket lines (option_map (λ x. steps.entry_of t c) o))
@@ -67,13 +71,15 @@ sound-replies key limits lines caller ticket t c s (Some next) sound later at no
     ∙ ap (λ x. (steps.step key limits x t c).after) (sym now) ∙ sym is)
 
 -- a turn past all tickets keeps its cell's journal sound
-pub sound-turn : (realm : Realm) (cell : CellKey) (lines : List Line) (caller ticket : ℕ) (sealed : Option Digest) (ask : Ask)
+pub sound-turn : (realm : Realm) (cell : CellKey) (lines : List Line) (caller ticket : ℕ) (sealed : Option Digest)
+    (ask : Ask)
     → IsSoundIn realm cell lines → past lines ≤ ticket
     → IsSoundIn realm cell (lines_after caller ticket lines (turn_at realm cell lines ticket sealed ask).entry)
 unfolding turn_at
 sound-turn realm (Directory site) lines caller ticket sealed (knows name) sound later = sound
 sound-turn realm (Directory site) lines caller ticket sealed (register name) sound later =
-    sound-registers realm lines caller ticket (frame_of realm site) name (directories.directory_at (frame_of realm site) lines ticket)
+    sound-registers realm lines caller ticket (frame_of realm site) name
+    (directories.directory_at (frame_of realm site) lines ticket)
     (registration (frame_of realm site) (directories.directory_at (frame_of realm site) lines ticket) name) sound later
     (the_last_is_now (directories.after_line (frame_of realm site)) first_directory lines ticket sound later) refl
 sound-turn realm (Directory site) lines caller ticket sealed (site_call (site_calls.Names page)) sound later = sound
@@ -96,7 +102,8 @@ sound-empty realm (Repository key) = tt
 -- ---- runs
 
 -- the journal of a cell after an entry in one cell
-journal-entered : (realm : Realm) (world : World) (cell other : CellKey) (entry : Option Entry) (P : CellKey → List Line → Type 0)
+journal-entered : (realm : Realm) (world : World) (cell other : CellKey) (entry : Option Entry)
+    (P : CellKey → List Line → Type 0)
     → P cell (lines_after 0 (next_ticket world cell) (world.journals cell) entry) → P other (world.journals other)
     → P other ((entered realm world cell entry).journals other)
 unfolding entered with_lines
@@ -111,7 +118,8 @@ pub sound-entered : (realm : Realm) (world : World) (cell : CellKey) (ask : Ask)
     → AreSound realm (entered realm world cell (next_turn realm world cell ask).entry).journals
 sound-entered realm world cell ask sound other =
     journal-entered realm world cell other (next_turn realm world cell ask).entry (IsSoundIn realm)
-    (sound-turn realm cell (world.journals cell) 0 (next_ticket world cell) _ ask (sound cell) (omega arith)) (sound other)
+    (sound-turn realm cell (world.journals cell) 0 (next_ticket world cell) _ ask (sound cell) (omega arith))
+    (sound other)
 
 pub sound-run : {A : Type 0} (realm : Realm) (world : World) (script : Script A) → AreSound realm world.journals
     → AreSound realm (run realm world script).world.journals
@@ -119,16 +127,19 @@ unfolding run
 sound-run realm world (ends a) sound = sound
 sound-run realm world (turn cell ask next) sound =
     let turned : Turned = next_turn realm world cell ask in
-    sound-run realm (entered realm world cell turned.entry) (next turned.told) (sound-entered realm world cell ask sound)
+    sound-run realm (entered realm world cell turned.entry) (next turned.told)
+    (sound-entered realm world cell ask sound)
 
-pub sound-run_to : {A : Type 0} (n : ℕ) (realm : Realm) (world : World) (script : Script A) → AreSound realm world.journals
+pub sound-run_to : {A : Type 0} (n : ℕ) (realm : Realm) (world : World) (script : Script A)
+    → AreSound realm world.journals
     → AreSound realm (run_to n realm world script).journals
 unfolding run_to
 sound-run_to n realm world (ends a) sound = sound
 sound-run_to zero realm world (turn cell ask next) sound = sound
 sound-run_to (suc n) realm world (turn cell ask next) sound =
     let turned : Turned = next_turn realm world cell ask in
-    sound-run_to (suc n - count_of turned.entry) realm (entered realm world cell turned.entry) (next turned.told) (sound-entered realm world cell ask sound)
+    sound-run_to (suc n - count_of turned.entry) realm (entered realm world cell turned.entry) (next turned.told)
+    (sound-entered realm world cell ask sound)
 
 -- ---- the next tickets
 
@@ -140,33 +151,48 @@ past_from-push : (low : ℕ) (lines : List Line) (line : Line) → past_from low
 past_from-push low [] line = refl
 past_from-push low (l ∷ ls) line = past_from-push (suc l.ticket) ls line
 
-pub past-after : (caller : ℕ) (lines : List Line) (entry : Option Entry) → past lines ≤ past (lines_after caller (past lines) lines entry)
+pub past-after : (caller : ℕ) (lines : List Line) (entry : Option Entry)
+    → past lines ≤ past (lines_after caller (past lines) lines entry)
 past-after caller lines None = omega arith
 past-after caller lines (Some entry) =
     let line : Line = record { ticket = past lines; caller = caller; entry = entry } in
     omega (arith, past_from-push 0 lines line)
 
-later-entered : (realm : Realm) (world : World) (cell : CellKey) (entry : Option Entry) → AreLater world.journals (entered realm world cell entry).journals
+later-entered : (realm : Realm) (world : World) (cell : CellKey) (entry : Option Entry)
+    → AreLater world.journals (entered realm world cell entry).journals
 later-entered realm world cell entry other =
-    journal-entered realm world cell other entry (λ k ls. past (world.journals k) ≤ past ls) (past-after 0 (world.journals cell) entry) (omega arith)
+    journal-entered realm world cell other entry (λ k ls. past (world.journals k) ≤ past ls)
+    (past-after 0 (world.journals cell) entry) (omega arith)
 
 later-trans : (one two three : Journals) → AreLater one two → AreLater two three → AreLater one three
 later-trans one two three p q cell = omega (arith, p cell, q cell)
 
-pub later-run : {A : Type 0} (realm : Realm) (world : World) (script : Script A) → AreLater world.journals (run realm world script).world.journals
+pub later-run : {A : Type 0} (realm : Realm) (world : World) (script : Script A)
+    → AreLater world.journals (run realm world script).world.journals
 unfolding run
 later-run realm world (ends a) cell = omega arith
 later-run realm world (turn at ask next) cell =
     let turned : Turned = next_turn realm world at ask in
-    omega (arith, later-entered realm world at turned.entry cell, later-run realm (entered realm world at turned.entry) (next turned.told) cell)
+    omega (
+      arith,
+      later-entered realm world at turned.entry cell,
+      later-run realm
+          (entered realm world at turned.entry) (next turned.told) cell,
+    )
 
-pub later-run_to : {A : Type 0} (n : ℕ) (realm : Realm) (world : World) (script : Script A) → AreLater world.journals (run_to n realm world script).journals
+pub later-run_to : {A : Type 0} (n : ℕ) (realm : Realm) (world : World) (script : Script A)
+    → AreLater world.journals (run_to n realm world script).journals
 unfolding run_to
 later-run_to n realm world (ends a) cell = omega arith
 later-run_to zero realm world (turn at ask next) cell = omega arith
 later-run_to (suc n) realm world (turn at ask next) cell =
     let turned : Turned = next_turn realm world at ask in
-    omega (arith, later-entered realm world at turned.entry cell, later-run_to (suc n - count_of turned.entry) realm (entered realm world at turned.entry) (next turned.told) cell)
+    omega (
+      arith,
+      later-entered realm world at turned.entry cell,
+      later-run_to (suc n - count_of turned.entry) realm
+          (entered realm world at turned.entry) (next turned.told) cell,
+    )
 
 -- ---- places
 
@@ -180,30 +206,37 @@ abbrev pub AreReached : Journals → List Place → Type 0
 AreReached journals [] = Unit {0}
 AreReached journals (p ∷ ps) = (p.ticket ≤ past (journals p.cell)) × AreReached journals ps
 
-late-earlier : (before after : Journals) (ps : List Place) → AreLater before after → AreLate after ps → AreLate before ps
+late-earlier : (before after : Journals) (ps : List Place) → AreLater before after → AreLate after ps
+    → AreLate before ps
 late-earlier before after [] later late = tt
-late-earlier before after (p ∷ ps) later late = (omega (arith, later p.cell, late.0), late.1, late-earlier before after ps later late.2)
+late-earlier before after (p ∷ ps) later late =
+    (omega (arith, later p.cell, late.0), late.1, late-earlier before after ps later late.2)
 
 -- a place before journals whose later places it doesn't pass
-none_falls : (journals : Journals) (p : Place) (ps : List Place) → p.ticket ≤ past (journals p.cell) → AreLate journals ps → All (DoesNotFall p) ps
+none_falls : (journals : Journals) (p : Place) (ps : List Place) → p.ticket ≤ past (journals p.cell)
+    → AreLate journals ps → All (DoesNotFall p) ps
 none_falls journals p [] reached late = All-nil (DoesNotFall p)
 none_falls journals p (q ∷ qs) reached late =
     All-cons (DoesNotFall p) q qs
     (λ same. omega (arith, reached, late.0, ap (λ k. past (journals k)) (same_cell-same p.cell q.cell same)))
     (none_falls journals p qs reached late.2)
 
-all_append : (p : Place) (ps qs : List Place) → All (DoesNotFall p) ps → All (DoesNotFall p) qs → All (DoesNotFall p) (ps ++ qs)
+all_append : (p : Place) (ps qs : List Place) → All (DoesNotFall p) ps → All (DoesNotFall p) qs
+    → All (DoesNotFall p) (ps ++ qs)
 all_append p [] qs one other = other
 all_append p (x ∷ xs) qs one other =
-    All-cons (DoesNotFall p) x (xs ++ qs) (All-head (DoesNotFall p) x xs one) (all_append p xs qs (All-tail (DoesNotFall p) x xs one) other)
+    All-cons (DoesNotFall p) x (xs ++ qs) (All-head (DoesNotFall p) x xs one)
+    (all_append p xs qs (All-tail (DoesNotFall p) x xs one) other)
 
 all_front : (p : Place) (ps qs : List Place) → All (DoesNotFall p) (ps ++ qs) → All (DoesNotFall p) ps
 all_front p [] qs all = All-nil (DoesNotFall p)
 all_front p (x ∷ xs) qs all =
-    All-cons (DoesNotFall p) x xs (All-head (DoesNotFall p) x (xs ++ qs) all) (all_front p xs qs (All-tail (DoesNotFall p) x (xs ++ qs) all))
+    All-cons (DoesNotFall p) x xs (All-head (DoesNotFall p) x (xs ++ qs) all)
+    (all_front p xs qs (All-tail (DoesNotFall p) x (xs ++ qs) all))
 
 -- places, and then later ones
-late-append : (before after : Journals) (ps qs : List Place) → AreLater before after → AreLate before ps → AreReached after ps → AreLate after qs
+late-append : (before after : Journals) (ps qs : List Place) → AreLater before after → AreLate before ps
+    → AreReached after ps → AreLate after qs
     → AreLate before (ps ++ qs)
 late-append before after [] qs later one reached other = late-earlier before after qs later other
 late-append before after (p ∷ ps) qs later one reached other = (
@@ -218,7 +251,8 @@ late-front journals [] qs late = tt
 late-front journals (p ∷ ps) qs late = (late.0, all_front p ps qs late.1, late-front journals ps qs late.2)
 
 -- the places of a run
-pub late-run : {A : Type 0} (realm : Realm) (world : World) (script : Script A) → AreLate world.journals (run realm world script).places
+pub late-run : {A : Type 0} (realm : Realm) (world : World) (script : Script A)
+    → AreLate world.journals (run realm world script).places
 unfolding run
 late-run realm world (ends a) = tt
 late-run realm world (turn cell ask next) =
@@ -227,25 +261,34 @@ late-run realm world (turn cell ask next) =
     let rest = late-run realm after (next turned.told) in
     let p : Place = place_of cell (next_ticket world cell) turned in (
       omega arith,
-      none_falls after.journals p (run realm after (next turned.told)).places (later-entered realm world cell turned.entry cell) rest,
-      late-earlier world.journals after.journals (run realm after (next turned.told)).places (later-entered realm world cell turned.entry) rest,
+      none_falls after.journals p (run realm after (next turned.told)).places
+          (later-entered realm world cell turned.entry cell) rest,
+      late-earlier world.journals after.journals (run realm after (next turned.told)).places
+          (later-entered realm world cell turned.entry) rest,
     )
 
 -- a whole run reaches its places
-pub reached-run : {A : Type 0} (realm : Realm) (world : World) (script : Script A) → AreReached (run realm world script).world.journals (run realm world script).places
+pub reached-run : {A : Type 0} (realm : Realm) (world : World) (script : Script A)
+    → AreReached (run realm world script).world.journals (run realm world script).places
 unfolding run
 reached-run realm world (ends a) = tt
 reached-run realm world (turn cell ask next) =
-    let turned : Turned = next_turn realm world cell ask in
-    (later-run realm world (turn cell ask next) cell, reached-run realm (entered realm world cell turned.entry) (next turned.told))
+    let turned : Turned = next_turn realm world cell ask in (
+      later-run realm world (turn cell ask next) cell,
+      reached-run realm (entered realm world cell turned.entry)
+          (next turned.told),
+    )
 
 -- a place says that an entry was added where its turn has one
-changed_by : (cell : CellKey) (ticket : ℕ) (turned : Turned) (p : Place) → place_of cell ticket turned ≡ p → (if p.changed then 1 else 0) ≡ count_of turned.entry
-changed_by cell ticket turned p is = ap (λ (x : Place). if x.changed then 1 else 0) (sym is) ∙ count_of-place turned.entry
+changed_by : (cell : CellKey) (ticket : ℕ) (turned : Turned) (p : Place) → place_of cell ticket turned ≡ p
+    → (if p.changed then 1 else 0) ≡ count_of turned.entry
+changed_by cell ticket turned p is =
+    ap (λ (x : Place). if x.changed then 1 else 0) (sym is) ∙ count_of-place turned.entry
 
 -- up to the entries of its first places a run reaches them
 pub reached-run_to : {A : Type 0} (n : ℕ) (realm : Realm) (world : World) (script : Script A) (ps rest : List Place)
-    → (run realm world script).places ≡ ps ++ rest → count_changed ps ≤ n → AreReached (run_to n realm world script).journals ps
+    → (run realm world script).places ≡ ps ++ rest → count_changed ps ≤ n
+    → AreReached (run_to n realm world script).journals ps
 unfolding run run_to
 reached-run_to n realm world script [] rest is within = tt
 reached-run_to n realm world (ends a) (p ∷ ps) rest is within = absurd (cc)
@@ -254,7 +297,8 @@ reached-run_to zero realm world (turn cell ask next) (p ∷ ps) rest is within =
     let after : World = entered realm world cell turned.entry in
     let first : place_of cell (next_ticket world cell) turned ≡ p = cc in
     let others : (run realm after (next turned.told)).places ≡ ps ++ rest = cc in
-    let changed : (if p.changed then 1 else 0) ≡ count_of turned.entry = changed_by cell (next_ticket world cell) turned p first in
+    let changed : (if p.changed then 1 else 0) ≡ count_of turned.entry =
+    changed_by cell (next_ticket world cell) turned p first in
     let stays : after ≡ world = entered-none realm world cell turned.entry (omega (arith, changed, within)) in
     let none : run_to 0 realm after (next turned.told) ≡ world = run_to-none realm after (next turned.told) ∙ stays in
     let more = reached-run_to 0 realm after (next turned.told) ps rest others (omega (arith, within)) in (
@@ -266,10 +310,13 @@ reached-run_to (suc n) realm world (turn cell ask next) (p ∷ ps) rest is withi
     let after : World = entered realm world cell turned.entry in
     let first : place_of cell (next_ticket world cell) turned ≡ p = cc in
     let others : (run realm after (next turned.told)).places ≡ ps ++ rest = cc in
-    let changed : (if p.changed then 1 else 0) ≡ count_of turned.entry = changed_by cell (next_ticket world cell) turned p first in
+    let changed : (if p.changed then 1 else 0) ≡ count_of turned.entry =
+    changed_by cell (next_ticket world cell) turned p first in
     let later = later-run_to (suc n) realm world (turn cell ask next) cell in (
-      subst (λ (x : Place). x.ticket ≤ past ((run_to (suc n) realm world (turn cell ask next)).journals x.cell)) first later,
-      reached-run_to (suc n - count_of turned.entry) realm after (next turned.told) ps rest others (omega (arith, changed, within)),
+      subst (λ (x : Place). x.ticket ≤ past
+          ((run_to (suc n) realm world (turn cell ask next)).journals x.cell)) first later,
+      reached-run_to (suc n - count_of turned.entry) realm after (next turned.told) ps rest others
+          (omega (arith, changed, within)),
     )
 
 -- ---- above all tickets of a sound journal
@@ -279,37 +326,51 @@ above-from : {S : Type 0} (after : S → Line → Option S) (low : ℕ) (s : S) 
 unfolding IsSoundFrom
 above-from after low s [] ticket sound past = All-nil (λ (l : Line). l.ticket < ticket)
 above-from after low s (l ∷ ls) ticket sound past =
-    let later : suc l.ticket ≤ past_from (suc l.ticket) ls = past_from-ge after (suc l.ticket) sound.1.0 ls sound.1.2 in
-    All-cons (λ (m : Line). m.ticket < ticket) l ls (omega (arith, later, past)) (above-from after (suc l.ticket) sound.1.0 ls ticket sound.1.2 past)
+    let later : suc l.ticket ≤ past_from (suc l.ticket) ls =
+    past_from-ge after (suc l.ticket) sound.1.0 ls sound.1.2 in
+    All-cons (λ (m : Line). m.ticket < ticket) l ls (omega (arith, later, past))
+    (above-from after (suc l.ticket) sound.1.0 ls ticket sound.1.2 past)
 
-above-cell : (realm : Realm) (cell : CellKey) (lines : List Line) (ticket : ℕ) → IsSoundIn realm cell lines → past lines ≤ ticket → IsAbove lines ticket
-above-cell realm (Directory site) lines ticket sound past = above-from (directories.after_line (frame_of realm site)) 0 first_directory lines ticket sound past
-above-cell realm (Repository key) lines ticket sound past = above-from (steps.after_line key realm.limits) 0 steps.first_state lines ticket sound past
+above-cell : (realm : Realm) (cell : CellKey) (lines : List Line) (ticket : ℕ) → IsSoundIn realm cell lines
+    → past lines ≤ ticket → IsAbove lines ticket
+above-cell realm (Directory site) lines ticket sound past =
+    above-from (directories.after_line (frame_of realm site)) 0 first_directory lines ticket sound past
+above-cell realm (Repository key) lines ticket sound past =
+    above-from (steps.after_line key realm.limits) 0 steps.first_state lines ticket sound past
 
-pub fresh-late : (realm : Realm) (journals : Journals) (ps : List Place) → AreSound realm journals → AreLate journals ps → AreFresh journals ps
+pub fresh-late : (realm : Realm) (journals : Journals) (ps : List Place) → AreSound realm journals
+    → AreLate journals ps → AreFresh journals ps
 fresh-late realm journals [] sound late = tt
-fresh-late realm journals (p ∷ ps) sound late =
-    (above-cell realm p.cell (journals p.cell) p.ticket (sound p.cell) late.0, late.1, fresh-late realm journals ps sound late.2)
+fresh-late realm journals (p ∷ ps) sound late = (
+  above-cell realm p.cell (journals p.cell) p.ticket
+      (sound p.cell) late.0,
+  late.1,
+  fresh-late realm journals ps sound late.2,
+)
 
 -- ---- sessions
 
 -- an exchange keeps journals sound
-sound-served : (was now : Standing) (e : Exchange) → IsServed was e now → AreSound was.realm was.world.journals → AreSound now.realm now.world.journals
+sound-served : (was now : Standing) (e : Exchange) → IsServed was e now → AreSound was.realm was.world.journals
+    → AreSound now.realm now.world.journals
 unfolding left_by
 sound-served was now e v sound =
     subst (λ (r : Realm). AreSound r now.world.journals) (sym v.realm_stays)
     (subst (λ (w : World). AreSound was.realm w.journals) (sym v.leaves)
-    (cond_both e.cut.failed (run_to e.cut.entries was.realm was.world (script_of was.realm e.moment e.request)) (run was.realm was.world (script_of was.realm e.moment e.request)).world
+    (cond_both e.cut.failed (run_to e.cut.entries was.realm was.world (script_of was.realm e.moment e.request))
+    (run was.realm was.world (script_of was.realm e.moment e.request)).world
     (λ (w : World). AreSound was.realm w.journals)
     (λ failed. sound-run_to e.cut.entries was.realm was.world (script_of was.realm e.moment e.request) sound)
     (λ served. sound-run was.realm was.world (script_of was.realm e.moment e.request) sound)))
 
 -- an exchange leaves later journals
-later-served : (was now : Standing) (e : Exchange) → IsServed was e now → AreLater was.world.journals now.world.journals
+later-served : (was now : Standing) (e : Exchange) → IsServed was e now
+    → AreLater was.world.journals now.world.journals
 unfolding left_by
 later-served was now e v =
     subst (λ (w : World). AreLater was.world.journals w.journals) (sym v.leaves)
-    (cond_both e.cut.failed (run_to e.cut.entries was.realm was.world (script_of was.realm e.moment e.request)) (run was.realm was.world (script_of was.realm e.moment e.request)).world
+    (cond_both e.cut.failed (run_to e.cut.entries was.realm was.world (script_of was.realm e.moment e.request))
+    (run was.realm was.world (script_of was.realm e.moment e.request)).world
     (λ (w : World). AreLater was.world.journals w.journals)
     (λ failed. later-run_to e.cut.entries was.realm was.world (script_of was.realm e.moment e.request))
     (λ served. later-run was.realm was.world (script_of was.realm e.moment e.request)))
@@ -323,16 +384,19 @@ reached-served was now e v =
     (cond_both e.cut.failed (run_to e.cut.entries was.realm was.world script) (run was.realm was.world script).world
     (λ (w : World). AreReached w.journals e.places)
     (λ failed. reached-run_to e.cut.entries was.realm was.world script e.places v.placed.first.0 v.placed.first.1 v.placed.changed)
-    (λ served. subst (λ ps. AreReached (run was.realm was.world script).world.journals ps) (sym (v.placed.all served)) (reached-run was.realm was.world script)))
+    (λ served. subst (λ ps. AreReached (run was.realm was.world script).world.journals ps) (sym (v.placed.all served))
+    (reached-run was.realm was.world script)))
 
-late-served : (first last : Standing) (es : List Exchange) → AreServed first es last → AreLate first.world.journals (all_places (account_of es).places)
+late-served : (first last : Standing) (es : List Exchange) → AreServed first es last
+    → AreLate first.world.journals (all_places (account_of es).places)
 late-served first last [] served = tt
 late-served first last (e ∷ es) served =
     let v = served.1 in
     let script = script_of first.realm e.moment e.request in
     late-append first.world.journals served.0.world.journals e.places (all_places (account_of es).places)
     (later-served first served.0 e v)
-    (late-front first.world.journals e.places v.placed.first.0 (subst (AreLate first.world.journals) v.placed.first.1 (late-run first.realm first.world script)))
+    (late-front first.world.journals e.places v.placed.first.0
+    (subst (AreLate first.world.journals) v.placed.first.1 (late-run first.realm first.world script)))
     (reached-served first served.0 e v)
     (late-served served.0 last es served.2)
 
@@ -343,4 +407,6 @@ sessions_keep_journals_sound first last (e ∷ es) served sound =
     sessions_keep_journals_sound served.0 last es served.2 (sound-served first served.0 e served.1 sound)
 
 pub places_are_fresh : PlacesAreFresh
-places_are_fresh first last es served sound = fresh-late first.realm first.world.journals (all_places (account_of es).places) sound (late-served first last es served)
+places_are_fresh first last es served sound =
+    fresh-late first.realm first.world.journals (all_places (account_of es).places) sound
+    (late-served first last es served)

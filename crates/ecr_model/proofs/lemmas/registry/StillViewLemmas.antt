@@ -26,12 +26,14 @@ use Rattle.ecr_model.proofs.lemmas.registry.ViewLemmas.{IsAhead-visit, turn_at-l
 abbrev lines_next : World → CellKey → Option Entry → List Line
 lines_next world cell entry = lines_after 0 (next_ticket world cell) (world.journals cell) entry
 
-whole-chosen : (here : Bool) (one other : List Line) → (if here then Some (whole one) else Some (whole other)) ≡ Some (whole (if here then one else other))
+whole-chosen : (here : Bool) (one other : List Line)
+    → (if here then Some (whole one) else Some (whole other)) ≡ Some (whole (if here then one else other))
 whole-chosen true one other = refl
 whole-chosen false one other = refl
 
 pub views_of-entered : (realm : Realm) (world : World) (cell : CellKey) (entry : Option Entry)
-    → with_view (views_of world.journals) cell (whole (lines_next world cell entry)) ≡ views_of (entered realm world cell entry).journals
+    → with_view (views_of world.journals) cell (whole (lines_next world cell entry)) ≡ views_of
+    (entered realm world cell entry).journals
 unfolding with_view with_lines entered
 views_of-entered realm world cell None =
     fun_ext (λ k. cond_both (same_cell cell k) (Some (whole (world.journals cell))) (Some (whole (world.journals k)))
@@ -52,21 +54,27 @@ late-own caller ticket None = tt
 late-own caller ticket (Some entry) = (omega arith, tt)
 
 -- a turn doesn't read its own entry
-turn_at-own : (realm : Realm) (cell : CellKey) (lines : List Line) (caller ticket : ℕ) (sealed : Option Digest) (ask : Ask) (entry : Option Entry)
-    → turn_at realm cell (lines_after caller ticket lines entry) ticket sealed ask ≡ turn_at realm cell lines ticket sealed ask
+turn_at-own : (realm : Realm) (cell : CellKey) (lines : List Line) (caller ticket : ℕ) (sealed : Option Digest)
+    (ask : Ask) (entry : Option Entry)
+    → turn_at realm cell (lines_after caller ticket lines entry) ticket sealed ask
+    ≡ turn_at realm cell lines ticket sealed ask
 turn_at-own realm cell lines caller ticket sealed ask entry =
     ap (λ (ls : List Line). turn_at realm cell ls ticket sealed ask) (lines_after-is caller ticket lines entry)
     ∙ turn_at-later realm cell lines (lines_of caller ticket entry) ticket sealed ask (late-own caller ticket entry)
 
-Rises-sound : {S : Type 0} (after : S → Line → Option S) (low : ℕ) (s : S) (lines : List Line) → IsSoundFrom after low s lines
+Rises-sound : {S : Type 0} (after : S → Line → Option S) (low : ℕ) (s : S) (lines : List Line)
+    → IsSoundFrom after low s lines
     → Rises low lines (past_from low lines)
 unfolding IsSoundFrom
 Rises-sound after low s [] sound = omega arith
 Rises-sound after low s (l ∷ ls) sound = (sound.0, Rises-sound after (suc l.ticket) sound.1.0 ls sound.1.2)
 
-Rises-cell : (realm : Realm) (cell : CellKey) (lines : List Line) → IsSoundIn realm cell lines → Rises 0 lines (past lines)
-Rises-cell realm (Directory site) lines sound = Rises-sound (directories.after_line (frame_of realm site)) 0 directories.first_directory lines sound
-Rises-cell realm (Repository key) lines sound = Rises-sound (steps.after_line key realm.limits) 0 steps.first_state lines sound
+Rises-cell : (realm : Realm) (cell : CellKey) (lines : List Line) → IsSoundIn realm cell lines
+    → Rises 0 lines (past lines)
+Rises-cell realm (Directory site) lines sound =
+    Rises-sound (directories.after_line (frame_of realm site)) 0 directories.first_directory lines sound
+Rises-cell realm (Repository key) lines sound =
+    Rises-sound (steps.after_line key realm.limits) 0 steps.first_state lines sound
 
 -- the next turn of a run as a turn that was made
 abbrev made_next : Realm → World → CellKey → Ask → Made
@@ -75,7 +83,8 @@ made_next realm world cell ask =
 
 -- the next turn of a run is a visit
 visit-next : (realm : Realm) (world : World) (cell : CellKey) (ask : Ask) → AreSound realm world.journals
-    → Visit (alone_in realm) (Some (whole (world.journals cell))) (whole (lines_next world cell (next_turn realm world cell ask).entry)) cell ask
+    → Visit (alone_in realm) (Some (whole (world.journals cell)))
+    (whole (lines_next world cell (next_turn realm world cell ask).entry)) cell ask
     (made_next realm world cell ask)
 visit-next realm world cell ask sound =
     let lines : List Line = world.journals cell in
@@ -100,7 +109,8 @@ visit-next realm world cell ask sound =
         same = refl;
         onward = omega arith;
       };
-      rises = Rises-cell realm cell news (sound-turn realm cell lines 0 (next_ticket world cell) None ask (sound cell) (omega arith));
+      rises = Rises-cell realm cell news
+          (sound-turn realm cell lines 0 (next_ticket world cell) None ask (sound cell) (omega arith));
       shared = λ none. absurd (cc);
       alone = λ yes_alone. record { no_others = refl; next = refl; at_end = refl };
     }
@@ -119,13 +129,15 @@ journal-next lines others news caller ticket at entry other is none number place
     ∙ sym (lines_after-is 0 at lines other)
 
 -- a visit by a caller that is alone and sees the whole journal is the next turn of a run
-record IsNextTurn (realm : Realm) (world : World) (cell : CellKey) (ask : Ask) (view : View) (made : Made) : Type 0 where
+record IsNextTurn (realm : Realm) (world : World) (cell : CellKey) (ask : Ask) (view : View)
+    (made : Made) : Type 0 where
   result : result_of realm cell view.seen ask made ≡ next_turn realm world cell ask
   place_is : made.place ≡ place_of cell (next_ticket world cell) (next_turn realm world cell ask)
   view_is : view ≡ whole (lines_next world cell (next_turn realm world cell ask).entry)
 
 visit-is_next : (realm : Realm) (world : World) (cell : CellKey) (ask : Ask) (view : View) (made : Made)
-    → Visit (alone_in realm) (Some (whole (world.journals cell))) view cell ask made → IsNextTurn realm world cell ask view made
+    → Visit (alone_in realm) (Some (whole (world.journals cell))) view cell ask made
+    → IsNextTurn realm world cell ask view made
 visit-is_next realm world cell ask view made visit =
     let was : View = whole (world.journals cell) in
     let lines : List Line = world.journals cell in
@@ -146,9 +158,14 @@ visit-is_next realm world cell ask view made visit =
     (ap (λ (t : Turned). t.entry) same) in
     record {
       result = same;
-      place_is = ap (λ (c : CellKey). record { cell = c; ticket = made.place.ticket; changed = made.place.changed }) visit.cell_is
+      place_is = ap (λ (c : CellKey). record {
+        cell = c;
+        ticket = made.place.ticket;
+        changed = made.place.changed;
+      }) visit.cell_is
           ∙ ap (λ n. record { cell = cell; ticket = n; changed = made.place.changed }) at
-          ∙ ap (λ b. record { cell = cell; ticket = ticket; changed = b }) (visit.changed_is ∙ ap (λ (t : Turned). is_some t.entry) same);
+          ∙ ap (λ b. record { cell = cell; ticket = ticket; changed = b })
+          (visit.changed_is ∙ ap (λ (t : Turned). is_some t.entry) same);
       view_is = ap (λ n. record { caller = n; past = view.past; seen = view.seen }) caller
           ∙ ap (λ n. record { caller = 0; past = n; seen = view.seen }) alone.at_end
           ∙ ap whole journal;
@@ -176,8 +193,10 @@ module _ {A : Type 0} where
       turn_at-own realm cell (world.journals cell) 0 (next_ticket world cell) None ask turned.entry in (
         view,
         visit-next realm world cell ask sound,
-        subst (λ (t : Turned). Visits (alone_in realm) (with_view (views_of world.journals) cell view) last (next t.told) made rest.answer) (sym same)
-            (subst (λ (views : Views). Visits (alone_in realm) views last (next turned.told) made rest.answer) (sym (views_of-entered realm world cell turned.entry))
+        subst (λ (t : Turned). Visits (alone_in realm) (with_view (views_of world.journals) cell view) last
+            (next t.told) made rest.answer) (sym same)
+            (subst (λ (views : Views). Visits (alone_in realm) views last (next turned.told) made rest.answer)
+            (sym (views_of-entered realm world cell turned.entry))
             (runs_visit realm after (next turned.told) (sound-entered realm world cell ask sound))),
       )
 
@@ -191,13 +210,18 @@ module _ {A : Type 0} where
       let after : World = entered realm world cell turned.entry in
       let is : IsNextTurn realm world cell ask v.0 m = visit-is_next realm world cell ask v.0 m v.1 in
       let rest : Visits (alone_in realm) (views_of after.journals) now (next turned.told) ms answer =
-      subst (λ (views : Views). Visits (alone_in realm) views now (next turned.told) ms answer) (views_of-entered realm world cell turned.entry)
-      (subst (λ (w : View). Visits (alone_in realm) (with_view (views_of world.journals) cell w) now (next turned.told) ms answer) is.view_is
-      (subst (λ (t : Turned). Visits (alone_in realm) (with_view (views_of world.journals) cell v.0) now (next t.told) ms answer) is.result v.2)) in
-      let run_is : IsRun A realm after (next turned.told) now ms answer = visits_run realm after now (next turned.told) ms answer rest in
+      subst (λ (views : Views). Visits (alone_in realm) views now (next turned.told) ms answer)
+      (views_of-entered realm world cell turned.entry)
+      (subst (λ (w : View). Visits (alone_in realm) (with_view (views_of world.journals) cell w) now
+      (next turned.told) ms answer) is.view_is
+      (subst (λ (t : Turned). Visits (alone_in realm) (with_view (views_of world.journals) cell v.0) now
+      (next t.told) ms answer) is.result v.2)) in
+      let run_is : IsRun A realm after (next turned.told) now ms answer =
+      visits_run realm after now (next turned.told) ms answer rest in
       record {
         leaves = run_is.leaves;
-        places_are = ap (λ p. p ∷ places_of ms) is.place_is ∙ ap (λ ps. place_of cell (next_ticket world cell) turned ∷ ps) run_is.places_are;
+        places_are = ap (λ p. p ∷ places_of ms) is.place_is
+            ∙ ap (λ ps. place_of cell (next_ticket world cell) turned ∷ ps) run_is.places_are;
         answer_is = run_is.answer_is;
       }
 
@@ -205,23 +229,29 @@ module _ {A : Type 0} where
   unfolding Halts run run_to
   halts_run_to realm world now (ends a) [] v = record { leaves = v; rest = []; places_are = refl }
   halts_run_to realm world now (ends a) (m ∷ ms) v = absurd v
-  halts_run_to realm world now (turn cell ask next) [] (inl is) = record { leaves = is; rest = (run realm world (turn cell ask next)).places; places_are = refl }
+  halts_run_to realm world now (turn cell ask next) [] (inl is) =
+      record { leaves = is; rest = (run realm world (turn cell ask next)).places; places_are = refl }
   halts_run_to realm world now (turn cell ask next) [] (inr g) = let shared : true ≡ false = g.0 in absurd (cc)
   halts_run_to realm world now (turn cell ask next) (m ∷ ms) v =
       let turned : Turned = next_turn realm world cell ask in
       let after : World = entered realm world cell turned.entry in
       let is : IsNextTurn realm world cell ask v.0 m = visit-is_next realm world cell ask v.0 m v.1 in
       let rest : Halts (alone_in realm) (views_of after.journals) now (next turned.told) ms =
-      subst (λ (views : Views). Halts (alone_in realm) views now (next turned.told) ms) (views_of-entered realm world cell turned.entry)
-      (subst (λ (w : View). Halts (alone_in realm) (with_view (views_of world.journals) cell w) now (next turned.told) ms) is.view_is
-      (subst (λ (t : Turned). Halts (alone_in realm) (with_view (views_of world.journals) cell v.0) now (next t.told) ms) is.result v.2)) in
-      let first : IsFirst A realm after (next turned.told) now ms = halts_run_to realm after now (next turned.told) ms rest in
+      subst (λ (views : Views). Halts (alone_in realm) views now (next turned.told) ms)
+      (views_of-entered realm world cell turned.entry)
+      (subst (λ (w : View). Halts (alone_in realm) (with_view (views_of world.journals) cell w) now
+      (next turned.told) ms) is.view_is
+      (subst (λ (t : Turned). Halts (alone_in realm) (with_view (views_of world.journals) cell v.0) now
+      (next t.told) ms) is.result v.2)) in
+      let first : IsFirst A realm after (next turned.told) now ms =
+      halts_run_to realm after now (next turned.told) ms rest in
       let counted : (if m.place.changed then 1 else 0) ≡ count_of turned.entry =
       ap (λ (p : Place). if p.changed then 1 else 0) is.place_is ∙ count_of-place turned.entry in
       record {
         leaves = first.leaves
             ∙ ap (λ (w : World). views_of w.journals)
-            (sym (run_to-turn (count_changed (places_of (m ∷ ms))) (count_changed (places_of ms)) realm world cell ask next (omega (arith, counted))));
+            (sym (run_to-turn (count_changed (places_of (m ∷ ms)))
+            (count_changed (places_of ms)) realm world cell ask next (omega (arith, counted))));
         rest = first.rest;
         places_are = ap (λ ps. place_of cell (next_ticket world cell) turned ∷ ps) first.places_are
             ∙ ap (λ p. p ∷ (places_of ms ++ first.rest)) (sym is.place_is);
@@ -237,7 +267,8 @@ module _ {A : Type 0} where
       let after : World = entered realm world cell turned.entry in
       let view : View = whole (lines_next world cell turned.entry) in
       let left : ℕ = suc n - count_of turned.entry in
-      let rest = runs_to_halt left realm after (next turned.told) (sound-entered realm world cell ask sound) (omega (arith, within)) in
+      let rest = runs_to_halt left realm after (next turned.told) (sound-entered realm world cell ask sound)
+      (omega (arith, within)) in
       let last : Views = views_of (run_to left realm after (next turned.told)).journals in
       let same : result_of realm cell view.seen ask (made_next realm world cell ask) ≡ turned =
       turn_at-own realm cell (world.journals cell) 0 (next_ticket world cell) None ask turned.entry in (
@@ -246,7 +277,9 @@ module _ {A : Type 0} where
         (
           view,
           visit-next realm world cell ask sound,
-          subst (λ (t : Turned). Halts (alone_in realm) (with_view (views_of world.journals) cell view) last (next t.told) rest.0) (sym same)
-              (subst (λ (views : Views). Halts (alone_in realm) views last (next turned.told) rest.0) (sym (views_of-entered realm world cell turned.entry)) rest.2),
+          subst (λ (t : Turned). Halts (alone_in realm) (with_view (views_of world.journals) cell view) last
+              (next t.told) rest.0) (sym same)
+              (subst (λ (views : Views). Halts (alone_in realm) views last (next turned.told) rest.0)
+              (sym (views_of-entered realm world cell turned.entry)) rest.2),
         ),
       )

@@ -44,19 +44,22 @@ IsAhead-trans one two three p q = record {
     longer = q.follows.longer ∙ ap (λ (ls : List Line). ls ++ q.follows.news) p.follows.longer
         ∙ append_assoc (seen_of one) p.follows.news q.follows.news;
     later = Each-append (λ l. past_of one ≤ l.ticket) p.follows.news q.follows.news p.follows.later
-        (Each-weaker (λ l. past_of two ≤ l.ticket) (λ l. past_of one ≤ l.ticket) (λ l late. omega (arith, late, p.onward)) q.follows.news q.follows.later);
+        (Each-weaker (λ l. past_of two ≤ l.ticket) (λ l. past_of one ≤ l.ticket)
+        (λ l late. omega (arith, late, p.onward)) q.follows.news q.follows.later);
   };
   same = KeepsCaller-trans one two three p.same q.same;
   onward = omega (arith, p.onward, q.onward);
 }
 
 Each-lines_of : (P : Line → Type 0) (caller ticket : ℕ) (entry : Option Entry)
-    → ((e : Entry) → P (record { ticket = ticket; caller = caller; entry = e })) → Each P (lines_of caller ticket entry)
+    → ((e : Entry) → P (record { ticket = ticket; caller = caller; entry = e }))
+    → Each P (lines_of caller ticket entry)
 Each-lines_of P caller ticket None each = tt
 Each-lines_of P caller ticket (Some entry) each = (each entry, tt)
 
 -- what came to a view goes on from it
-pub IsAhead-comes : (was : Option View) (now : View) (own : List Line) → Comes was now own → Each (λ l. past_of was ≤ l.ticket) own
+pub IsAhead-comes : (was : Option View) (now : View) (own : List Line) → Comes was now own
+    → Each (λ l. past_of was ≤ l.ticket) own
     → IsAhead was (Some now)
 IsAhead-comes was now own comes late = record {
   follows = record {
@@ -71,15 +74,18 @@ IsAhead-comes was now own comes late = record {
 pub IsAhead-visit : (terms : Terms) (was : Option View) (now : View) (cell : CellKey) (ask : Ask) (made : Made)
     → Visit terms was now cell ask made → IsAhead was (Some now)
 IsAhead-visit terms was now cell ask made visit =
-    IsAhead-comes was now (lines_of now.caller made.place.ticket (result_of terms.realm cell now.seen ask made).entry) visit.comes
-    (Each-lines_of (λ l. past_of was ≤ l.ticket) now.caller made.place.ticket (result_of terms.realm cell now.seen ask made).entry (λ e. visit.fresh))
+    IsAhead-comes was now (lines_of now.caller made.place.ticket
+    (result_of terms.realm cell now.seen ask made).entry) visit.comes
+    (Each-lines_of (λ l. past_of was ≤ l.ticket) now.caller made.place.ticket
+    (result_of terms.realm cell now.seen ask made).entry (λ e. visit.fresh))
 
 -- the view of the cell itself
 pub with_view-same : (views : Views) (cell : CellKey) (view : View) → with_view views cell view cell ≡ Some view
 unfolding with_view
 with_view-same views cell view = cond-true (same_cell cell cell) (Some view) (views cell) (same_cell-self cell)
 
-pub AreAhead-with_view : (was : Views) (cell : CellKey) (view : View) → IsAhead (was cell) (Some view) → AreAhead was (with_view was cell view)
+pub AreAhead-with_view : (was : Views) (cell : CellKey) (view : View) → IsAhead (was cell) (Some view)
+    → AreAhead was (with_view was cell view)
 unfolding with_view
 AreAhead-with_view was cell view ahead k =
     cond_both (same_cell cell k) (Some view) (was k) (λ (o : Option View). IsAhead (was k) o)
@@ -87,8 +93,10 @@ AreAhead-with_view was cell view ahead k =
     (λ apart. IsAhead-refl (was k))
 
 -- a glance goes on too
-AreAhead-glances : (terms : Terms) (was : Views) (cell : CellKey) (now : Views) → Glances terms was cell now → AreAhead was now
-AreAhead-glances terms was cell now (inl is) k = subst (λ (views : Views). IsAhead (was k) (views k)) (sym is) (IsAhead-refl (was k))
+AreAhead-glances : (terms : Terms) (was : Views) (cell : CellKey) (now : Views) → Glances terms was cell now
+    → AreAhead was now
+AreAhead-glances terms was cell now (inl is) k =
+    subst (λ (views : Views). IsAhead (was k) (views k)) (sym is) (IsAhead-refl (was k))
 AreAhead-glances terms was cell now (inr g) k =
     subst (λ (views : Views). IsAhead (was k) (views k)) (sym g.1.2)
     (AreAhead-with_view was cell g.1.0 (IsAhead-comes (was cell) g.1.0 [] g.1.1 tt) k)
@@ -96,7 +104,8 @@ AreAhead-glances terms was cell now (inr g) k =
 module _ {A : Type 0} where
   pub visits_go_on : VisitsGoOn A
   unfolding Visits
-  visits_go_on terms was now (ends a) [] answer v k = subst (λ (views : Views). IsAhead (was k) (views k)) (sym v.0) (IsAhead-refl (was k))
+  visits_go_on terms was now (ends a) [] answer v k =
+      subst (λ (views : Views). IsAhead (was k) (views k)) (sym v.0) (IsAhead-refl (was k))
   visits_go_on terms was now (ends a) (m ∷ ms) answer v k = absurd v
   visits_go_on terms was now (turn cell ask next) [] answer v k = absurd v
   visits_go_on terms was now (turn cell ask next) (m ∷ ms) answer v k =
@@ -107,7 +116,8 @@ module _ {A : Type 0} where
 
   pub halts_go_on : HaltsGoOn A
   unfolding Halts
-  halts_go_on terms was now (ends a) [] v k = subst (λ (views : Views). IsAhead (was k) (views k)) (sym v) (IsAhead-refl (was k))
+  halts_go_on terms was now (ends a) [] v k =
+      subst (λ (views : Views). IsAhead (was k) (views k)) (sym v) (IsAhead-refl (was k))
   halts_go_on terms was now (ends a) (m ∷ ms) v k = absurd v
   halts_go_on terms was now (turn cell ask next) [] v k = AreAhead-glances terms was cell now v k
   halts_go_on terms was now (turn cell ask next) (m ∷ ms) v k =
@@ -123,28 +133,32 @@ all_of P [] each = All-nil P
 all_of P (l ∷ ls) each = All-cons P l ls each.0 (all_of P ls each.1)
 
 -- a turn reads only the lines below its ticket
-pub turn_at-later : (realm : Realm) (cell : CellKey) (lines news : List Line) (ticket : ℕ) (sealed : Option Digest) (ask : Ask)
+pub turn_at-later : (realm : Realm) (cell : CellKey) (lines news : List Line) (ticket : ℕ) (sealed : Option Digest)
+    (ask : Ask)
     → Each (λ l. ticket ≤ l.ticket) news
     → turn_at realm cell (lines ++ news) ticket sealed ask ≡ turn_at realm cell lines ticket sealed ask
 unfolding turn_at
 turn_at-later realm (Directory site) lines news ticket sealed ask late =
     let frame = frame_of realm site in
     ap (λ d. directory_turn frame d ask)
-    (what_was_stays (directories.after_line frame) directories.first_directory lines news ticket (all_of (λ l. ticket ≤ l.ticket) news late))
+    (what_was_stays (directories.after_line frame) directories.first_directory lines news ticket
+    (all_of (λ l. ticket ≤ l.ticket) news late))
 turn_at-later realm (Repository key) lines news ticket sealed (knows name) late = refl
 turn_at-later realm (Repository key) lines news ticket sealed (register name) late = refl
 turn_at-later realm (Repository key) lines news ticket sealed (site_call c) late = refl
 turn_at-later realm (Repository key) lines news ticket sealed (call beside c) late =
     let t : steps.Turn = steps.turn_of ticket sealed beside in
     ap (λ s. replies t c (steps.step key realm.limits s t c))
-    (what_was_stays (steps.after_line key realm.limits) steps.first_state lines news ticket (all_of (λ l. ticket ≤ l.ticket) news late))
+    (what_was_stays (steps.after_line key realm.limits) steps.first_state lines news ticket
+    (all_of (λ l. ticket ≤ l.ticket) news late))
 
 pub what_was_seen_stays : WhatWasSeenStays
 what_was_seen_stays realm cell ticket sealed ask was now ahead within =
     let f : Follows (past_of was) (seen_of was) (seen_of now) = ahead.follows in
     ap (λ (ls : List Line). turn_at realm cell ls ticket sealed ask) f.longer
     ∙ turn_at-later realm cell (seen_of was) f.news ticket sealed ask
-    (Each-weaker (λ l. past_of was ≤ l.ticket) (λ l. ticket ≤ l.ticket) (λ l late. omega (arith, late, within)) f.news f.later)
+    (Each-weaker (λ l. past_of was ≤ l.ticket) (λ l. ticket ≤ l.ticket)
+    (λ l late. omega (arith, late, within)) f.news f.later)
 
 -- a turn that was made has its result over each journal that is seen later
 result_of-later : (terms : Terms) (was later : Views) (cell : CellKey) (view : View) (ask : Ask) (made : Made)
@@ -170,7 +184,8 @@ module _ {A : Type 0} where
       let told = (result_of terms.realm cell v.0.seen ask m).told in
       let mid = with_view was cell v.0 in
       ap (λ t. answer_at terms.realm (journals_of later) (next t.told) ms)
-      (result_of-later terms was later cell v.0 ask m v.1 (ahead-after terms mid now later (next told) ms answer v.2 ahead))
+      (result_of-later terms was later cell v.0 ask m v.1
+      (ahead-after terms mid now later (next told) ms answer v.2 ahead))
       ∙ answers_stay terms mid now later (next told) ms answer v.2 ahead
 
 -- ---- a caller's own lines
@@ -186,7 +201,8 @@ by-foreign caller (l ∷ ls) foreign =
     let first : l.caller ≢ caller = foreign.0 in
     grind (arith, rest, first)
 
-by-own : (caller ticket : ℕ) (entry : Option Entry) → by caller (lines_of caller ticket entry) ≡ lines_of caller ticket entry
+by-own : (caller ticket : ℕ) (entry : Option Entry)
+    → by caller (lines_of caller ticket entry) ≡ lines_of caller ticket entry
 by-own caller ticket None = refl
 by-own caller ticket (Some entry) = grind arith
 
@@ -209,7 +225,8 @@ own_of-comes was now own comes is =
     ∙ append-nil (by now.caller (seen_of was))
     ∙ by-was was now.caller (same_caller was now comes.same))
   where
-    same_caller : (was : Option View) (now : View) → KeepsCaller was (Some now) → KeepsCaller was (Some (record { caller = now.caller; past = 0; seen = [] }))
+    same_caller : (was : Option View) (now : View) → KeepsCaller was (Some now)
+        → KeepsCaller was (Some (record { caller = now.caller; past = 0; seen = [] }))
     same_caller None now same = tt
     same_caller (Some view) now same = same
 
@@ -219,7 +236,8 @@ caller_of-later view None same = absurd same
 caller_of-later view (Some now) same = same
 
 -- a turn in a cell, seen from a cell
-own_of-chosen : (here : Bool) (was : Option View) (view : View) (own : List Line) → (here ≡ true → own_of (Some view) ≡ own_of was ++ own)
+own_of-chosen : (here : Bool) (was : Option View) (view : View) (own : List Line)
+    → (here ≡ true → own_of (Some view) ≡ own_of was ++ own)
     → own_of (if here then Some view else was) ≡ own_of was ++ (if here then own else [])
 own_of-chosen true was view own there = there refl
 own_of-chosen false was view own there = sym (append-nil (own_of was))
@@ -228,22 +246,26 @@ own_of-visit : (terms : Terms) (was later : Views) (at cell : CellKey) (view : V
     → Visit terms (was at) view at ask made → AreAhead (with_view was at view) later
     → own_of (with_view was at view cell)
     ≡ own_of (was cell) ++ (if same_cell at cell
-    then lines_of (caller_of (later cell)) made.place.ticket (result_of terms.realm at view.seen ask made).entry else [])
+    then lines_of (caller_of (later cell)) made.place.ticket
+    (result_of terms.realm at view.seen ask made).entry else [])
 unfolding with_view
 own_of-visit terms was later at cell view ask made visit ahead =
     let entry = (result_of terms.realm at view.seen ask made).entry in
     let ticket : ℕ = made.place.ticket in
-    let keeps : IsAhead (Some view) (later at) = subst (λ (o : Option View). IsAhead o (later at)) (with_view-same was at view) (ahead at) in
+    let keeps : IsAhead (Some view) (later at) =
+    subst (λ (o : Option View). IsAhead o (later at)) (with_view-same was at view) (ahead at) in
     let number : caller_of (later at) ≡ view.caller = caller_of-later view (later at) keeps.same in
     own_of-chosen (same_cell at cell) (was cell) view (lines_of (caller_of (later cell)) ticket entry)
-    (λ same. subst (λ (c : CellKey). own_of (Some view) ≡ own_of (was c) ++ lines_of (caller_of (later c)) ticket entry) (same_cell-same at cell same)
+    (λ same. subst (λ (c : CellKey). own_of (Some view) ≡ own_of (was c) ++ lines_of
+    (caller_of (later c)) ticket entry) (same_cell-same at cell same)
     (own_of-comes (was at) view (lines_of view.caller ticket entry) visit.comes (by-own view.caller ticket entry)
     ∙ ap (λ n. own_of (was at) ++ lines_of n ticket entry) (sym number)))
 
 module _ {A : Type 0} where
   pub own_lines_are_entered : OwnLinesAreEntered A
   unfolding Visits entered_in
-  own_lines_are_entered terms was now (ends a) [] answer v cell = ap (λ (views : Views). own_of (views cell)) v.0 ∙ sym (append-nil (own_of (was cell)))
+  own_lines_are_entered terms was now (ends a) [] answer v cell =
+      ap (λ (views : Views). own_of (views cell)) v.0 ∙ sym (append-nil (own_of (was cell)))
   own_lines_are_entered terms was now (ends a) (m ∷ ms) answer v cell = absurd v
   own_lines_are_entered terms was now (turn at ask next) [] answer v cell = absurd v
   own_lines_are_entered terms was now (turn at ask next) (m ∷ ms) answer v cell =
@@ -254,8 +276,10 @@ module _ {A : Type 0} where
       let own : Turned → List Line = λ t. if same_cell at cell then lines_of caller m.place.ticket t.entry else [] in
       let others : Turned → List Line = λ t. entered_in terms.realm (journals_of now) cell caller (next t.told) ms in
       own_lines_are_entered terms mid now (next told) ms answer v.2 cell
-      ∙ ap (λ ls. ls ++ others (result_of terms.realm at v.0.seen ask m)) (own_of-visit terms was now at cell v.0 ask m v.1 ahead)
-      ∙ append_assoc (own_of (was cell)) (own (result_of terms.realm at v.0.seen ask m)) (others (result_of terms.realm at v.0.seen ask m))
+      ∙ ap (λ ls. ls ++ others (result_of terms.realm at v.0.seen ask m))
+      (own_of-visit terms was now at cell v.0 ask m v.1 ahead)
+      ∙ append_assoc (own_of (was cell)) (own (result_of terms.realm at v.0.seen ask m))
+      (others (result_of terms.realm at v.0.seen ask m))
       ∙ ap (λ t. own_of (was cell) ++ (own t ++ others t)) (sym (result_of-later terms was now at v.0 ask m v.1 ahead))
 
 -- ---- one script and then another
@@ -274,8 +298,12 @@ module _ {A B : Type 0} where
       (subst (λ (views : Views). Visits terms views now (next a) more b) v.0 w)
   visits_then terms was mid now (ends x) next (m ∷ ms) more a b v w = absurd v
   visits_then terms was mid now (turn cell ask told) next [] more a b v w = absurd v
-  visits_then terms was mid now (turn cell ask told) next (m ∷ ms) more a b v w =
-      (v.0, v.1, visits_then terms (with_view was cell v.0) mid now (told (result_of terms.realm cell v.0.seen ask m).told) next ms more a b v.2 w)
+  visits_then terms was mid now (turn cell ask told) next (m ∷ ms) more a b v w = (
+    v.0,
+    v.1,
+    visits_then terms (with_view was cell v.0) mid now
+        (told (result_of terms.realm cell v.0.seen ask m).told) next ms more a b v.2 w,
+  )
 
   pub visits_part : VisitsPart A B
   unfolding Visits then_do
@@ -284,7 +312,8 @@ module _ {A B : Type 0} where
   visits_part terms was now (turn cell ask told) next [] b v = absurd v
   visits_part terms was now (turn cell ask told) next (m ∷ ms) b v =
       let script = told (result_of terms.realm cell v.0.seen ask m).told in
-      let rest : AreParted A B terms (with_view was cell v.0) now script next ms b = visits_part terms (with_view was cell v.0) now script next ms b v.2 in
+      let rest : AreParted A B terms (with_view was cell v.0) now script next ms b =
+      visits_part terms (with_view was cell v.0) now script next ms b v.2 in
       record {
         mid = rest.mid;
         first = m ∷ rest.first;
@@ -297,11 +326,16 @@ module _ {A B : Type 0} where
 
   pub halts_first : HaltsFirst A B
   unfolding Halts then_do
-  halts_first terms was now (ends x) next [] v = subst (λ (views : Views). Halts terms was views (next x) []) (sym v) (halts_here terms was (next x))
+  halts_first terms was now (ends x) next [] v =
+      subst (λ (views : Views). Halts terms was views (next x) []) (sym v) (halts_here terms was (next x))
   halts_first terms was now (ends x) next (m ∷ ms) v = absurd v
   halts_first terms was now (turn cell ask told) next [] v = v
-  halts_first terms was now (turn cell ask told) next (m ∷ ms) v =
-      (v.0, v.1, halts_first terms (with_view was cell v.0) now (told (result_of terms.realm cell v.0.seen ask m).told) next ms v.2)
+  halts_first terms was now (turn cell ask told) next (m ∷ ms) v = (
+    v.0,
+    v.1,
+    halts_first terms (with_view was cell v.0) now
+        (told (result_of terms.realm cell v.0.seen ask m).told) next ms v.2,
+  )
 
   pub halts_then : HaltsThen A B
   unfolding Visits Halts then_do
@@ -310,8 +344,12 @@ module _ {A B : Type 0} where
       (subst (λ (views : Views). Halts terms views now (next a) more) v.0 w)
   halts_then terms was mid now (ends x) next (m ∷ ms) more a v w = absurd v
   halts_then terms was mid now (turn cell ask told) next [] more a v w = absurd v
-  halts_then terms was mid now (turn cell ask told) next (m ∷ ms) more a v w =
-      (v.0, v.1, halts_then terms (with_view was cell v.0) mid now (told (result_of terms.realm cell v.0.seen ask m).told) next ms more a v.2 w)
+  halts_then terms was mid now (turn cell ask told) next (m ∷ ms) more a v w = (
+    v.0,
+    v.1,
+    halts_then terms (with_view was cell v.0) mid now
+        (told (result_of terms.realm cell v.0.seen ask m).told) next ms more a v.2 w,
+  )
 
 module _ {A : Type 0} where
   pub visits_halt : VisitsHalt A
@@ -319,8 +357,12 @@ module _ {A : Type 0} where
   visits_halt terms was now (ends a) [] answer v = v.0
   visits_halt terms was now (ends a) (m ∷ ms) answer v = absurd v
   visits_halt terms was now (turn cell ask told) [] answer v = absurd v
-  visits_halt terms was now (turn cell ask told) (m ∷ ms) answer v =
-      (v.0, v.1, visits_halt terms (with_view was cell v.0) now (told (result_of terms.realm cell v.0.seen ask m).told) ms answer v.2)
+  visits_halt terms was now (turn cell ask told) (m ∷ ms) answer v = (
+    v.0,
+    v.1,
+    visits_halt terms (with_view was cell v.0) now
+        (told (result_of terms.realm cell v.0.seen ask m).told) ms answer v.2,
+  )
 
 -- ---- places
 

@@ -24,7 +24,8 @@ end_like more = ends.Spent
 
 end_is : (end : End) (ending : Ending) (size : ℕ) → IsOfRead end → Ends end ending size → end ≡ end_like ending
 unfolding end_like
-end_is ends.Whole ending size d x = ⊎_elim (λ (e : ending ≡ ended). sym (ap end_like e)) (λ (e : ending ≡ closed). sym (ap end_like e)) x
+end_is ends.Whole ending size d x =
+    ⊎_elim (λ (e : ending ≡ ended). sym (ap end_like e)) (λ (e : ending ≡ closed). sym (ap end_like e)) x
 end_is (ends.Truncated at) ending size d x = sym (ap end_like x)
 end_is (ends.Bad at) ending size d x = sym (ap end_like x)
 end_is (ends.TooLong at limit) ending size d x = sym (ap end_like x)
@@ -85,7 +86,8 @@ Reads-over bytes over rs tail reads needs = stops_over reads.point.closed over r
 
 -- ---- what was read is the front of the input
 
-pub Consumes-front : (before after : Option (List ℕ)) (input read : List ℕ) → before ≡ Some input → Consumes before after read
+pub Consumes-front : (before after : Option (List ℕ)) (input read : List ℕ) → before ≡ Some input
+    → Consumes before after read
     → (rest : List ℕ) × (after ≡ Some rest) × (input ≡ read ++ rest)
 Consumes-front None after input read is consumed = absurd (cc)
 Consumes-front (Some xs) None input read is consumed = absurd consumed
@@ -107,7 +109,8 @@ reads_input input read rest over after rs tail left is at_end reads (inr needs) 
 -- such an end is one of the two
 end_shows : (end : End) (ending : Ending) (size : ℕ) → IsOfInput end → Ends end ending size
     → (is_last ending ≡ true) ⊎ (needs_end ending ≡ true)
-end_shows ends.Whole ending size d x = ⊎_elim (λ (e : ending ≡ ended). inr (ap needs_end e)) (λ (e : ending ≡ closed). inl (ap is_last e)) x
+end_shows ends.Whole ending size d x =
+    ⊎_elim (λ (e : ending ≡ ended). inr (ap needs_end e)) (λ (e : ending ≡ closed). inl (ap is_last e)) x
 end_shows (ends.Truncated at) ending size d x = inr (ap needs_end x)
 end_shows (ends.Bad at) ending size d x = inl (ap is_last x)
 end_shows (ends.TooLong at limit) ending size d x = inl (ap is_last x)
@@ -131,18 +134,21 @@ Ends_any_size ends.Mem ending size other d x = absurd d
 Ends_any_size ends.Spent ending size other d x = absurd d
 
 -- the session's reading is the input's
-pub Completed-reads_input : (set : Setting) (before after : Outside) (account : Account) (left : World) (end : End) (input : List ℕ)
+pub Completed-reads_input : (set : Setting) (before after : Outside) (account : Account) (left : World) (end : End)
+    (input : List ℕ)
     → before.left ≡ Some input → (done : Completed set before after account left end) → IsOfInput end
     → Reads input true (requests_of done.exchanges) done.tail
 Completed-reads_input set before after account left end input told done d =
     let front : (rest : List ℕ) × (after.left ≡ Some rest) × (input ≡ done.read ++ rest) =
     Consumes-front before.left after.left input done.read told done.consumed in
-    reads_input input done.read front.0 done.over after.left (requests_of done.exchanges) done.tail front.1 front.2 done.at_end done.reads
+    reads_input input done.read front.0 done.over after.left
+    (requests_of done.exchanges) done.tail front.1 front.2 done.at_end done.reads
     (end_shows end done.tail.ending (length done.read) d done.ends)
 
 pub the_input_decides_the_end : TheInputDecidesTheEnd
 the_input_decides_the_end set before after account left end input requests tail told done d reads =
-    let mine : Reads input true (requests_of done.exchanges) done.tail = Completed-reads_input set before after account left end input told done d in
+    let mine : Reads input true (requests_of done.exchanges) done.tail =
+    Completed-reads_input set before after account left end input told done d in
     let same : (requests_of done.exchanges ≡ requests) × (done.tail ≡ tail) =
     Reads-unique input true (requests_of done.exchanges) requests done.tail tail mine reads in (
       subst (λ (t : Tail). Ends end t.ending (length input)) same.1

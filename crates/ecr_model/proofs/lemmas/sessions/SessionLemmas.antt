@@ -2,13 +2,11 @@
 use Rattle.std.proofs.Common.{◌≡◌, ℕ, Bool, true, false, if◌then◌else◌, List, [], ◌∷◌, ◌++◌, map, Option, None, Some, refl, sym, ap, ◌∙◌, subst, append_assoc, append-nil}
 use Rattle.std.specs.Io.KnownBytes.{Appends}
 use Rattle.std.proofs.KnownBytes.{Appends-nil, Appends-trans}
-use Rattle.ecr_model.specs.declared.http.Request.{Request}
-use Rattle.ecr_model.specs.declared.outcome.Cut.{Cut}
 use Rattle.ecr_model.specs.registry.Content.{content_digest}
 use Rattle.ecr_model.specs.http.Replies.{interim}
 use Rattle.ecr_model.specs.registry.Scripts.{Realm, World}
-use Rattle.ecr_model.specs.sessions.Sessions.{Exchange, Standing, Chain, IsServed, AreServed, IsTime, is_waiting, written, left_by, answer_to, sent_to, requests_of}
-use Rattle.ecr_model.specs.laws.SessionLaws.{AreAlike, TheClockTellsTheMoments, AFixedMomentIsEach}
+use Rattle.ecr_model.specs.sessions.Sessions.{Exchange, Standing, Chain, AreServed, IsTime, is_waiting, written, left_by, answer_to, sent_to, requests_of}
+use Rattle.ecr_model.specs.laws.SessionLaws.{TheClockTellsTheMoments, AFixedMomentIsEach}
 
 -- ---- one more exchange
 
@@ -24,26 +22,31 @@ module _ {S : Type 0} (serves : S → Exchange → S → Type 0) where
 pub sent_to-more : (es : List Exchange) (e : Exchange) → sent_to (es ++ e ∷ []) ≡ sent_to es ++ answer_to e
 sent_to-more [] e = append-nil (answer_to e)
 sent_to-more (d ∷ es) e =
-    ap (λ (l : List ℕ). answer_to d ++ l) (sent_to-more es e) ∙ sym (append_assoc (answer_to d) (sent_to es) (answer_to e))
+    ap (λ (l : List ℕ). answer_to d ++ l) (sent_to-more es e)
+    ∙ sym (append_assoc (answer_to d) (sent_to es) (answer_to e))
 
 -- ---- moments
 
 -- the first exchange's moment, and those of the others
-moments_from : (was mid last : Option (List ℕ)) (moment : ℕ) (moments : List ℕ) → Appends was mid (moment ∷ []) → Appends mid last moments
+moments_from : (was mid last : Option (List ℕ)) (moment : ℕ) (moments : List ℕ) → Appends was mid (moment ∷ [])
+    → Appends mid last moments
     → Appends was last (moment ∷ moments)
 moments_from was mid last moment moments first rest = Appends-trans was mid last (moment ∷ []) moments first rest
 
 -- the clock gave the moment where none is fixed
-IsTime-clock : (fixed : Option ℕ) (before after : Option (List ℕ)) (moment : ℕ) → fixed ≡ None → IsTime fixed before after moment
+IsTime-clock : (fixed : Option ℕ) (before after : Option (List ℕ)) (moment : ℕ) → fixed ≡ None
+    → IsTime fixed before after moment
     → Appends before after (moment ∷ [])
 IsTime-clock None before after moment is time = time.0
 IsTime-clock (Some m) before after moment is time = absurd (cc)
 
 -- the moment is the fixed one
-IsTime-fixed : (fixed : Option ℕ) (before after : Option (List ℕ)) (m moment : ℕ) → fixed ≡ Some m → IsTime fixed before after moment
+IsTime-fixed : (fixed : Option ℕ) (before after : Option (List ℕ)) (m moment : ℕ) → fixed ≡ Some m
+    → IsTime fixed before after moment
     → moment ≡ m
 IsTime-fixed None before after m moment is time = absurd (cc)
-IsTime-fixed (Some n) before after m moment is time = let same : Some n ≡ Some m = is in let at : moment ≡ n = time.0 in cc
+IsTime-fixed (Some n) before after m moment is time =
+    let same : Some n ≡ Some m = is in let at : moment ≡ n = time.0 in cc
 
 pub the_clock_tells_the_moments : TheClockTellsTheMoments
 the_clock_tells_the_moments first last [] served none =
@@ -61,7 +64,8 @@ a_fixed_moment_is_each first last (e ∷ es) moment served fixed =
     let next : Standing = served.0 in
     let still : next.fixed ≡ Some moment = served.1.fixed_stays ∙ fixed in
     let is : e.moment ≡ moment = IsTime-fixed first.fixed first.told next.told moment e.moment fixed served.1.timed in
-    let rest : map (λ d. d.moment) es ≡ map (λ d. moment) es = a_fixed_moment_is_each next last es moment served.2 still in
+    let rest : map (λ d. d.moment) es ≡ map (λ d. moment) es =
+    a_fixed_moment_is_each next last es moment served.2 still in
     ap (λ m. m ∷ map (λ d. d.moment) es) is ∙ ap (λ l. moment ∷ l) rest
 
 -- ---- what the requests, the moments and the cuts decide
@@ -70,7 +74,8 @@ a_fixed_moment_is_each first last (e ∷ es) moment served fixed =
 written-same : (realm other : Realm) (world another : World) (d e : Exchange)
     → realm ≡ other → world ≡ another → d.moment ≡ e.moment → d.cut ≡ e.cut → d.request ≡ e.request
     → d.contents ≡ e.contents
-    → written realm world d.moment d.cut d.request d.contents ≡ written other another e.moment e.cut e.request e.contents
+    → written realm world d.moment d.cut d.request d.contents
+    ≡ written other another e.moment e.cut e.request e.contents
 written-same realm other world another d e r w m c q s =
     ap (λ x. written x world d.moment d.cut d.request d.contents) r
     ∙ ap (λ x. written other x d.moment d.cut d.request d.contents) w
@@ -85,7 +90,8 @@ map-none f [] none = refl
 map-none f (x ∷ xs) none = absurd (cc)
 
 -- no reply carries content yet
-carries_none : (failed : Bool) (contents : List (List ℕ)) → map content_digest contents ≡ (if failed then [] else []) → contents ≡ []
+carries_none : (failed : Bool) (contents : List (List ℕ)) → map content_digest contents ≡ (if failed then [] else [])
+    → contents ≡ []
 carries_none true contents is = map-none content_digest contents is
 carries_none false contents is = map-none content_digest contents is
 
@@ -105,7 +111,8 @@ heads_same x y xs ys is = (cc, cc)
 
 pub AreServed-same : (s t last other : Standing) (es fs : List Exchange)
     → s.realm ≡ t.realm → s.world ≡ t.world → AreServed s es last → AreServed t fs other
-    → requests_of es ≡ requests_of fs → map (λ e. e.moment) es ≡ map (λ e. e.moment) fs → map (λ e. e.cut) es ≡ map (λ e. e.cut) fs
+    → requests_of es ≡ requests_of fs → map (λ e. e.moment) es ≡ map (λ e. e.moment) fs
+    → map (λ e. e.cut) es ≡ map (λ e. e.cut) fs
     → (sent_to es ≡ sent_to fs) × (last.world ≡ other.world)
 AreServed-same s t last other [] [] realm world one two q m c =
     (refl, ap (λ (x : Standing). x.world) one ∙ world ∙ sym (ap (λ (x : Standing). x.world) two))
@@ -118,7 +125,8 @@ AreServed-same s t last other (e ∷ es) (f ∷ fs) realm world one two q m c =
     let contents : e.contents ≡ f.contents =
     carries_none e.cut.failed e.contents one.1.carries ∙ sym (carries_none f.cut.failed f.contents two.1.carries) in
     let bytes : e.bytes ≡ f.bytes =
-    one.1.bytes ∙ written-same s.realm t.realm s.world t.world e f realm world ms.0 cs.0 qs.0 contents ∙ sym two.1.bytes in
+    one.1.bytes ∙ written-same s.realm t.realm s.world t.world e f realm world ms.0 cs.0 qs.0 contents
+    ∙ sym two.1.bytes in
     let next_realm : one.0.realm ≡ two.0.realm = one.1.realm_stays ∙ realm ∙ sym two.1.realm_stays in
     let next_world : one.0.world ≡ two.0.world =
     one.1.leaves ∙ left_by-same s.realm t.realm s.world t.world e f realm world ms.0 cs.0 qs.0 ∙ sym two.1.leaves in

@@ -7,4 +7,5 @@ use Rattle.ecr_policy.proofs.reading.read_document.Goals as goal
 -- a text is UTF-8
 pub returns : goal.returns
 returns c =
-    subst (λ (d : Option Data). IfOk c.read_json.result (λ o. option_map view o ≡ d)) (sym (document-IsUtf8 c.args.text.now c.utf8.text)) c.read_json.ensures
+    subst (λ (d : Option Data). IfOk c.read_json.result (λ o. option_map view o ≡ d))
+    (sym (document-IsUtf8 c.args.text.now c.utf8.text)) c.read_json.ensures

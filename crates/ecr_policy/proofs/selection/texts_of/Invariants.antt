@@ -4,4 +4,5 @@ use Rattle.ecr_model.specs.documents.Policies.{texts_of}
 use Rattle.ecr_policy.proofs.selection.texts_of.Given as goal
 
 abbrev pub invariant-loop-item : goal.invariant-loop-item
-invariant-loop-item l = texts_of (items_view l.fn.items.items) ≡ l.texts.items ++ texts_of (items_view l.item-iterator.rest.items)
+invariant-loop-item l = texts_of (items_view l.fn.items.items) ≡ l.texts.items ++ texts_of
+    (items_view l.item-iterator.rest.items)

@@ -12,8 +12,20 @@ returns-in-Ok-None-clause-usage g c = λ other.
     let left = g.S.Source.left c.args.source.now in
     let told = g.C.Clock.told c.args.clock.now in
     let faults = g.S.Source.faults c.args.source.now in
-    let before : Outside = record { left = left; held = g.K.Sink.held c.args.sink.now; told = told; read_faults = faults; write_faults = g.K.Sink.faults c.args.sink.now } in
-    let after : Outside = record { left = left; held = g.K.Sink.held c.say_usage.new.sink; told = told; read_faults = faults; write_faults = g.K.Sink.faults c.say_usage.new.sink } in
+    let before : Outside = record {
+      left = left;
+      held = g.K.Sink.held c.args.sink.now;
+      told = told;
+      read_faults = faults;
+      write_faults = g.K.Sink.faults c.args.sink.now;
+    } in
+    let after : Outside = record {
+      left = left;
+      held = g.K.Sink.held c.say_usage.new.sink;
+      told = told;
+      read_faults = faults;
+      write_faults = g.K.Sink.faults c.say_usage.new.sink;
+    } in
     SaysUsage-same_end before after c.with_status-in-Ok-None.result.end c.say_usage.result c.with_status-in-Ok-None.ensures.end (c.say_usage.ensures left told faults)
 
 pub returns-in-Ok-Some-clause-session : goal.returns-in-Ok-Some-clause-session

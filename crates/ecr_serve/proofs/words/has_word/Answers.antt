@@ -11,5 +11,6 @@ returns c =
     let words = c.args.words.now in
     let word = c.args.word.now in
     let e : c.any.result ≡ list_any (λ x. bytes_eq (string_bytes x) word) words =
-    any_from_yields_List (λ x. bytes_eq (string_bytes x) word) _ _ c.any.result c.any.ensures.ran (YieldsList-from_slice words cc) (λ x b q k. search (rules, tests)) in
+    any_from_yields_List (λ x. bytes_eq (string_bytes x) word) _ _ c.any.result c.any.ensures.ran
+    (YieldsList-from_slice words cc) (λ x b q k. search (rules, tests)) in
     rw e (Contains-list_any string_bytes words word)

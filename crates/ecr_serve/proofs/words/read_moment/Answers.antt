@@ -11,7 +11,8 @@ returns-then-moment-gt-MAX_MOMENT c = no_moment-above c.args.word.now c.parse.re
 
 pub returns : goal.returns
 returns c =
-    let written : c.as_str.result.now ≡ decimal c.in-Ok.moment = cc (c.in_ok-written.ensures.ok, c.as_str.ensures.value) in
+    let written : c.as_str.result.now ≡ decimal c.in-Ok.moment =
+    cc (c.in_ok-written.ensures.ok, c.as_str.ensures.value) in
     let other : c.args.word.now ≢ decimal c.in-Ok.moment =
     λ e. let same : false ≡ true = c.if-is_same.ensures.1 (written ∙ sym e) in cc in
     no_moment-other c.args.word.now c.parse.result c.in-Ok.moment c.parse.ensures.value.0 c.in-Ok.is other

@@ -8,7 +8,8 @@ pub returns-in_default : goal.returns-in_default
 returns-in_default c =
     let earlier = map string_bytes (take c.loop-i.i c.args.words.now) in
     no_sites-at string_bytes c.args.words.now c.loop-i.i c.index-words-i.result c.loop-i-test.true c.index-words-i.is
-    (subst (λ (word : List ℕ). (site : SiteId) → ¬ (IsNew earlier word site)) c.as_str.ensures.value (rw c.in_default.is at c.in_ok-site.ensures))
+    (subst (λ (word : List ℕ). (site : SiteId) → ¬ (IsNew earlier word site)) c.as_str.ensures.value
+    (rw c.in_default.is at c.in_ok-site.ensures))
 
 pub loop-i-preserved : goal.loop-i-preserved
 loop-i-preserved c =
@@ -16,4 +17,5 @@ loop-i-preserved c =
     let earlier = map string_bytes (take c.loop-i.i words) in
     rw c.in_ok-push.ensures.items
     (AreSites-more string_bytes words c.loop-i.i c.index-words-i.result c.loop-i.sites.items c.in-Some.site c.loop-i-test.true c.index-words-i.is c.loop-i.invariant
-    (subst (λ (word : List ℕ). IsNew earlier word c.in-Some.site) c.as_str.ensures.value (rw c.in-Some.is at c.in_ok-site.ensures)))
+    (subst (λ (word : List ℕ). IsNew earlier word c.in-Some.site) c.as_str.ensures.value
+    (rw c.in-Some.is at c.in_ok-site.ensures)))

@@ -13,11 +13,13 @@ returns-then-is_port c =
     let host = c.args.host.now in
     let colon = c.in-Some.colon in
     let found = without_port-last host colon (search rules) (search rules) (search rules) in
-    sym (found ∙ cond-true _ _ _ (ap is_port (sym (take_rest host (colon + 1))) ∙ sym c.is_port.ensures ∙ c.if-is_port.true))
+    sym (found ∙ cond-true _ _ _
+    (ap is_port (sym (take_rest host (colon + 1))) ∙ sym c.is_port.ensures ∙ c.if-is_port.true))
 
 pub returns-else-is_port : goal.returns-else-is_port
 returns-else-is_port c =
     let host = c.args.host.now in
     let colon = c.in-Some.colon in
     let found = without_port-last host colon (search rules) (search rules) (search rules) in
-    sym (found ∙ cond-false _ _ _ (ap is_port (sym (take_rest host (colon + 1))) ∙ sym c.is_port.ensures ∙ c.if-is_port.false))
+    sym (found ∙ cond-false _ _ _
+    (ap is_port (sym (take_rest host (colon + 1))) ∙ sym c.is_port.ensures ∙ c.if-is_port.false))

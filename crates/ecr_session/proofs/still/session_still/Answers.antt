@@ -12,29 +12,67 @@ use Rattle.ecr_session.proofs.still.session_still.Goals as goal
 
 pub returns-in-Err-clause-serves : goal.returns-in-Err-clause-serves
 returns-in-Err-clause-serves g c =
-    Serves-nothing IsServed _ _ _ _ (Account-nil _ _ _ c.new-in-Err.ensures.items (ap (map (λ v. v.items)) c.new-in-Err-2.ensures.items) c.new-in-Err-3.ensures.items) refl
+    Serves-nothing IsServed _ _ _ _
+    (Account-nil _ _ _ c.new-in-Err.ensures.items
+    (ap (map (λ v. v.items)) c.new-in-Err-2.ensures.items) c.new-in-Err-3.ensures.items) refl
 
 pub returns-in-Ok-clause-serves : goal.returns-in-Ok-clause-serves
 returns-in-Ok-clause-serves g c =
     let desk : DeskState = g.D.AnyDesk.seen c.args.desk.now in
     let last : DeskState = g.D.AnyDesk.seen c.run-end.new.desk in
     let set : SettingOf DeskState = record { realm = desk.realm; first = desk; fixed = c.args.mode.fixed } in
-    let before : Outside = record { left = g.S.Source.left c.args.source.now; held = g.K.Sink.held c.args.sink.now; told = g.C.Clock.told c.args.clock.now; read_faults = g.S.Source.faults c.args.source.now; write_faults = g.K.Sink.faults c.args.sink.now } in
-    let after : Outside = record { left = g.S.Source.left c.run-end.new.source; held = g.K.Sink.held c.run-end.new.sink; told = g.C.Clock.told c.run-end.new.clock; read_faults = g.S.Source.faults c.run-end.new.source; write_faults = g.K.Sink.faults c.run-end.new.sink } in
-    let told : Account = record { moments = c.ended.result.moments.items; places = map (λ v. v.items) c.ended.result.places.items; cuts = c.ended.result.cuts.items } in
+    let before : Outside = record {
+      left = g.S.Source.left c.args.source.now;
+      held = g.K.Sink.held c.args.sink.now;
+      told = g.C.Clock.told c.args.clock.now;
+      read_faults = g.S.Source.faults c.args.source.now;
+      write_faults = g.K.Sink.faults c.args.sink.now;
+    } in
+    let after : Outside = record {
+      left = g.S.Source.left c.run-end.new.source;
+      held = g.K.Sink.held c.run-end.new.sink;
+      told = g.C.Clock.told c.run-end.new.clock;
+      read_faults = g.S.Source.faults c.run-end.new.source;
+      write_faults = g.K.Sink.faults c.run-end.new.sink;
+    } in
+    let told : Account = record {
+      moments = c.ended.result.moments.items;
+      places = map (λ v. v.items) c.ended.result.places.items;
+      cuts = c.ended.result.cuts.items;
+    } in
     subst (λ (e : End). Serves (still_setting set) before after told (still_of last).world e) (sym c.ended.ensures.end)
-    (subst (λ (a : Account). Serves (still_setting set) before after a (still_of last).world c.run-end.result) (sym c.ended.ensures.account)
-    (Serves-still set before after (account_in c.run-end.new.self) last c.run-end.result (record { realm_is = refl; still = g.met.D.StillDesk.is_still c.args.desk.now }) c.run-end.ensures.serves.serves))
+    (subst (λ (a : Account). Serves (still_setting set) before after a (still_of last).world c.run-end.result)
+    (sym c.ended.ensures.account)
+    (Serves-still set before after (account_in c.run-end.new.self) last c.run-end.result
+    (record {
+      realm_is = refl;
+      still = g.met.D.StillDesk.is_still c.args.desk.now;
+    }) c.run-end.ensures.serves.serves))
 
 pub returns-in-Ok-clause-fresh : goal.returns-in-Ok-clause-fresh
 returns-in-Ok-clause-fresh g c =
     let desk : DeskState = g.D.AnyDesk.seen c.args.desk.now in
     let last : DeskState = g.D.AnyDesk.seen c.run-end.new.desk in
     let set : SettingOf DeskState = record { realm = desk.realm; first = desk; fixed = c.args.mode.fixed } in
-    let before : Outside = record { left = g.S.Source.left c.args.source.now; held = g.K.Sink.held c.args.sink.now; told = g.C.Clock.told c.args.clock.now; read_faults = g.S.Source.faults c.args.source.now; write_faults = g.K.Sink.faults c.args.sink.now } in
-    let after : Outside = record { left = g.S.Source.left c.run-end.new.source; held = g.K.Sink.held c.run-end.new.sink; told = g.C.Clock.told c.run-end.new.clock; read_faults = g.S.Source.faults c.run-end.new.source; write_faults = g.K.Sink.faults c.run-end.new.sink } in
+    let before : Outside = record {
+      left = g.S.Source.left c.args.source.now;
+      held = g.K.Sink.held c.args.sink.now;
+      told = g.C.Clock.told c.args.clock.now;
+      read_faults = g.S.Source.faults c.args.source.now;
+      write_faults = g.K.Sink.faults c.args.sink.now;
+    } in
+    let after : Outside = record {
+      left = g.S.Source.left c.run-end.new.source;
+      held = g.K.Sink.held c.run-end.new.sink;
+      told = g.C.Clock.told c.run-end.new.clock;
+      read_faults = g.S.Source.faults c.run-end.new.source;
+      write_faults = g.K.Sink.faults c.run-end.new.sink;
+    } in
     let still = g.met.D.StillDesk.is_still c.args.desk.now in
-    subst (λ (a : Account). AreFresh (still_of desk).world.journals (all_places a.places)) (sym c.ended.ensures.account)
-    (Serves-fresh (still_setting set) before after (account_in c.run-end.new.self) (still_of last).world c.run-end.result
+    subst (λ (a : Account). AreFresh (still_of desk).world.journals (all_places a.places))
+    (sym c.ended.ensures.account)
+    (Serves-fresh (still_setting set) before after (account_in c.run-end.new.self)
+    (still_of last).world c.run-end.result
     (c.served-sites.ensures.sound (ap (λ (s : DeskState). s.alone) still))
-    (Serves-still set before after (account_in c.run-end.new.self) last c.run-end.result (record { realm_is = refl; still = still }) c.run-end.ensures.serves.serves))
+    (Serves-still set before after (account_in c.run-end.new.self) last c.run-end.result
+    (record { realm_is = refl; still = still }) c.run-end.ensures.serves.serves))

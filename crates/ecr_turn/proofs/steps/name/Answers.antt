@@ -3,4 +3,5 @@ use Rattle.ecr_turn.proofs.Moves.{may_name}
 use Rattle.ecr_turn.proofs.steps.name.Goals as goal
 
 pub compare_exchange-found-requires : goal.compare_exchange-found-requires
-compare_exchange-found-requires g c = (search rules, search rules, may_name _ _ _ _ _ _ _ (ap (λ m. m.0.stage) c.loop.invariant.1 ∙ c.requires.idle))
+compare_exchange-found-requires g c =
+    (search rules, search rules, may_name _ _ _ _ _ _ _ (ap (λ m. m.0.stage) c.loop.invariant.1 ∙ c.requires.idle))

@@ -14,5 +14,7 @@ returns-clause-ran c =
     let key = c.args.key.now in
     let content = given c.args.load in
     let place = c.in_ok-done.place in
-    subst (λ (d : Decided). Ran before after (cell_turn key c.args.call content c.args.moment) d (place ∷ [])) (sym c.outcome_of-outcome.ensures.reply)
-    (Ran-cell_turn before after key c.in_ok-copy.copy c.args.call content c.args.moment (told_of c.in_ok-done.done) place c.in_ok-copy.ensures c.in_ok-done.ensures.ran)
+    subst (λ (d : Decided). Ran before after (cell_turn key c.args.call content c.args.moment) d (place ∷ []))
+    (sym c.outcome_of-outcome.ensures.reply)
+    (Ran-cell_turn before after key c.in_ok-copy.copy c.args.call content c.args.moment
+    (told_of c.in_ok-done.done) place c.in_ok-copy.ensures c.in_ok-done.ensures.ran)

@@ -16,18 +16,21 @@ make-requires-clause-served c =
 pub invariant_of-self : goal.invariant_of-self
 invariant_of-self c =
     let s = c.self.inside in
-    AreKept-rests s.served s.limits s.cells.entries c.make.new.cells.entries (site_of c.args.cell) c.self.invariant c.in_err-done.ensures.err
+    AreKept-rests s.served s.limits s.cells.entries c.make.new.cells.entries
+    (site_of c.args.cell) c.self.invariant c.in_err-done.ensures.err
 
 pub returns-in_err-done-clause-err : goal.returns-in_err-done-clause-err
 returns-in_err-done-clause-err c =
     let s = c.self.inside in
     on_err_any c.from_residual.result
-    (seen_of-rests s.served s.limits s.cells.entries c.make.new.cells.entries s.made (site_of c.args.cell) c.in_err-done.ensures.err ∙ ap seen_of c.self.view_is)
+    (seen_of-rests s.served s.limits s.cells.entries c.make.new.cells.entries s.made
+    (site_of c.args.cell) c.in_err-done.ensures.err ∙ ap seen_of c.self.view_is)
 
 pub invariant_of-self-2 : goal.invariant_of-self-2
 invariant_of-self-2 c =
     let s = c.self.inside in
-    AreKept-turns s.served s.limits s.cells.entries c.make.new.cells.entries c.args.cell (ask_of c.args.deed) (told_of c.in_ok-done.done) c.in_ok-done.place
+    AreKept-turns s.served s.limits s.cells.entries c.make.new.cells.entries c.args.cell (ask_of c.args.deed)
+    (told_of c.in_ok-done.done) c.in_ok-done.place
     c.self.invariant c.in_ok-done.ensures.turned
 
 pub returns-clause-ran : goal.returns-clause-ran
@@ -36,8 +39,14 @@ returns-clause-ran c =
     let told = told_of c.in_ok-done.done in
     let place = c.in_ok-done.place in
     let before : Desk = record { served = s.served; limits = s.limits; sites = s.cells.entries; made = s.made } in
-    let after : Desk = record { served = s.served; limits = s.limits; sites = c.make.new.cells.entries; made = c.counted-self-inside.result } in
-    subst (λ (d : Desk). MadeTurn (state_of d) (state_of after) c.args.cell (ask_of c.args.deed) told place) c.self.view_is
+    let after : Desk = record {
+      served = s.served;
+      limits = s.limits;
+      sites = c.make.new.cells.entries;
+      made = c.counted-self-inside.result;
+    } in
+    subst (λ (d : Desk). MadeTurn (state_of d) (state_of after) c.args.cell
+    (ask_of c.args.deed) told place) c.self.view_is
     (Ran-took (seen_of before) (seen_of after) c.args.cell (ask_of c.args.deed) told place c.self.invariant.sound
     (Took-turns s.served s.limits s.cells.entries c.make.new.cells.entries s.made c.counted-self-inside.result c.args.cell (ask_of c.args.deed) told place
     c.self.invariant c.in_ok-done.ensures.turned c.counted-self-inside.ensures))

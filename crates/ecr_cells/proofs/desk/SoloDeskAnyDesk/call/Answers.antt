@@ -20,14 +20,17 @@ returns-in_err-places-clause-stopped c =
 pub returns-in_err-told-clause-stopped : goal.returns-in_err-told-clause-stopped
 returns-in_err-told-clause-stopped c =
     on_err_any c.from_residual-in_err-told.result
-    (StoppedWithin-none 1 (state_of c.args.self.now) (state_of c.first_turn.new.self) (call_script c.args.key.now c.args.call (given c.args.load) c.args.moment)
+    (StoppedWithin-none 1 (state_of c.args.self.now) (state_of c.first_turn.new.self)
+    (call_script c.args.key.now c.args.call (given c.args.load) c.args.moment)
     (ap seen_by c.in_err-told.ensures.err))
 
 pub returns-in_err-outcome-clause-stopped : goal.returns-in_err-outcome-clause-stopped
 returns-in_err-outcome-clause-stopped c =
     on_err_any c.from_residual-in_err-outcome.result
-    (Stopped-call (state_of c.args.self.now) (state_of c.first_turn.new.self) (state_of c.then_cell.new.self) c.args.key.now c.args.call (given c.args.load) c.args.moment
-    (told_of c.in_ok-told.told) (c.in_ok-told.first ∷ []) c.in_ok-told.ensures.ran (ap seen_by c.in_err-outcome.ensures.err))
+    (Stopped-call (state_of c.args.self.now) (state_of c.first_turn.new.self)
+    (state_of c.then_cell.new.self) c.args.key.now c.args.call (given c.args.load) c.args.moment
+    (told_of c.in_ok-told.told) (c.in_ok-told.first ∷ []) c.in_ok-told.ensures.ran
+    (ap seen_by c.in_err-outcome.ensures.err))
 
 pub returns-clause-ran : goal.returns-clause-ran
 returns-clause-ran c =
@@ -42,9 +45,11 @@ returns-clause-ran c =
     let answer = c.answer_of.result in
     let told : Decided = record { reply = answer.reply; sealed = answer.sealed } in
     let decided : told ≡ plain reply =
-    ap {B = Decided} (λ r. record { reply = r; sealed = answer.sealed }) c.answer_of.ensures.reply ∙ ap {B = Decided} (λ d. record { reply = reply; sealed = d }) c.answer_of.ensures.sealed in
+    ap {B = Decided} (λ r. record { reply = r; sealed = answer.sealed }) c.answer_of.ensures.reply
+    ∙ ap {B = Decided} (λ d. record { reply = reply; sealed = d }) c.answer_of.ensures.sealed in
     let ran : Ran before after script (plain reply) (c.in_ok-told.first ∷ second) =
-    Ran-call before mid after key c.args.call content c.args.moment (told_of c.in_ok-told.told) (plain reply) (c.in_ok-told.first ∷ []) second
+    Ran-call before mid after key c.args.call content c.args.moment (told_of c.in_ok-told.told) (plain reply)
+    (c.in_ok-told.first ∷ []) second
     c.in_ok-told.ensures.ran c.in_ok-outcome.ensures.ran in
     subst (λ (ps : List Place). Ran before after script told ps) (sym c.answer_of.ensures.places)
     (subst (λ (d : Decided). Ran before after script d (c.in_ok-told.first ∷ second)) (sym decided) ran)
@@ -52,4 +57,5 @@ returns-clause-ran c =
 pub returns-clause-contents : goal.returns-clause-contents
 returns-clause-contents c =
     subst (λ (bs : List (List ℕ)). AreContents c.answer_of.result.reply bs) (sym c.answer_of.ensures.blobs)
-    (subst (λ (r : Reply). AreContents r c.in_ok-outcome.outcome.blobs.items) (sym c.answer_of.ensures.reply) c.in_ok-outcome.ensures.contents)
+    (subst (λ (r : Reply). AreContents r c.in_ok-outcome.outcome.blobs.items)
+    (sym c.answer_of.ensures.reply) c.in_ok-outcome.ensures.contents)

@@ -19,7 +19,11 @@ invariant_of-self-2 c =
     let puts : Puts s.repositories.entries news name c.next_in.new.cell =
     subst (λ (n : Name). Puts s.repositories.entries news n c.next_in.new.cell) c.in_ok-name.ensures c.in_ok-put.ensures.put in
     AreOfSite-put s.limits s.directory s.repositories.entries news name c.next_in.new.cell c.self.invariant
-    (record { key = c.next_in.ensures.stays.0 ∙ is.key; limits = c.next_in.ensures.stays.1 ∙ is.limits; numbered = c.next_in.ensures.numbered })
+    (record {
+      key = c.next_in.ensures.stays.0 ∙ is.key;
+      limits = c.next_in.ensures.stays.1 ∙ is.limits;
+      numbered = c.next_in.ensures.numbered;
+    })
     puts
 
 pub returns-clause-turned : goal.returns-clause-turned
@@ -36,7 +40,8 @@ returns-clause-turned c =
     (c.in_ok-cell.ensures ∙ ap (λ k. record { key = k; limits = s.limits; journal = [] }) c.in_ok-copy_of.ensures) in
     let puts : Puts s.repositories.entries news name c.next_in.new.cell =
     subst (λ (n : Name). Puts s.repositories.entries news n c.next_in.new.cell) c.in_ok-name.ensures c.in_ok-put.ensures.put in
-    let absent : state_of s.repositories.entries name ≡ None = ap (λ (h : Site). state_of h.repositories name) c.self.view_is ∙ c.requires.absent in
+    let absent : state_of s.repositories.entries name ≡ None =
+    ap (λ (h : Site). state_of h.repositories name) c.self.view_is ∙ c.requires.absent in
     let empty : lines_of_name s.repositories.entries name ≡ c.in_ok-cell.cell.journal =
     lines_of_name-none s.repositories.entries name absent ∙ sym (ap (λ (r : State). r.journal) c.in_ok-cell.ensures) in
     subst (λ (h : Site). IsTurn h after (Repository c.args.key) ask told c.in_ok-done.done.1) c.self.view_is

@@ -10,7 +10,8 @@ returns-in-Bytes-clause-filled g c =
     let n = c.in-Bytes.n in
     let now = c.read_at-got.new.room.items in
     let piece = take n (drop s.end now) in
-    let room : s.end + c.args.most ≤ length now = omega (arith, c.read_at-got.ensures.long, c.in_ok-make_room.ensures.room) in
+    let room : s.end + c.args.most ≤ length now =
+    omega (arith, c.read_at-got.ensures.long, c.in_ok-make_room.ensures.room) in
     let fits : n ≤ length (drop s.end now) = omega (arith, room, c.in-Bytes.ensures.count.1, length-drop s.end now) in
     let same : range s.start s.end now ≡ c.args.self.now =
     ap (drop s.start) (c.read_at-got.ensures.kept ∙ c.make_room.ensures.kept) ∙ c.self.view_is ∙ c.close_gap.ensures in

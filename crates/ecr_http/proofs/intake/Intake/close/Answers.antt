@@ -9,13 +9,15 @@ use Rattle.ecr_http.proofs.intake.Intake.close.Goals as goal
 pub returns-in-Crlf-clause-goes_on : goal.returns-in-Crlf-clause-goes_on
 returns-in-Crlf-clause-goes_on g c = λ limit before old body d.
     let closed = subst (λ (b : List ℕ). IsClosed b closings.Crlf) c.as_slice.ensures c.in-Crlf.ensures in
-    subst (λ (b : List ℕ). Decodes limit before old (g.S.Source.left c.args.source.now) (rest_of b c.args.self.now) body stages.Line)
+    subst (λ (b : List ℕ). Decodes limit before old (g.S.Source.left c.args.source.now)
+    (rest_of b c.args.self.now) body stages.Line)
     (sym c.skip.ensures) (Data-closes limit before old _ c.args.self.now body closed d)
 
 pub returns-in-Crlf-clause-nearer : goal.returns-in-Crlf-clause-nearer
 returns-in-Crlf-clause-nearer g c =
     let closed = subst (λ (b : List ℕ). IsClosed b closings.Crlf) c.as_slice.ensures c.in-Crlf.ensures in
-    subst (λ (b : List ℕ). left_to_do stages.Line (rest_of b c.args.self.now) < left_to_do (stages.Data 0) c.args.self.now)
+    subst (λ (b : List ℕ). left_to_do stages.Line (rest_of b c.args.self.now) < left_to_do
+    (stages.Data 0) c.args.self.now)
     (sym c.skip.ensures) (nearer_by_use c.args.self.now 2 (stages.Data 0) stages.Line closed.0 (omega arith))
 
 pub returns-in-Less-clause-goes_on : goal.returns-in-Less-clause-goes_on

@@ -11,7 +11,8 @@ pub returns-in-Some-clause-goes_on : goal.returns-in-Some-clause-goes_on
 unfolding max_trailers
 returns-in-Some-clause-goes_on g c = λ limit before old body d.
     let ends = subst (λ (b : List ℕ). IsEnd (1 + max_trailers) b c.in-Some.end) c.as_slice.ensures c.in-Some.ensures in
-    subst (λ (b : List ℕ). Decoded limit before old (g.S.Source.left c.args.source.now) (rest_of b c.args.self.now) body nexts.Whole)
+    subst (λ (b : List ℕ). Decoded limit before old (g.S.Source.left c.args.source.now)
+    (rest_of b c.args.self.now) body nexts.Whole)
     (sym c.skip.ensures) (Trailers-whole limit before old _ c.args.self.now body c.args.scanned c.in-Some.end ends d)
 
 pub returns-in-None-clause-goes_on : goal.returns-in-None-clause-goes_on

@@ -16,7 +16,8 @@ unfolding max_trailers
 returns-clause-goes_on g c = λ limit scanned before old body d.
     let few = c.if-len-gt-MAX_TRAILERS.false in
     c.read_on.ensures.goes_on limit before old body
-    (subst (λ (n : ℕ). Awaits limit before old (g.S.Source.left c.args.source.now) c.args.self.now body (stages.Trailers n))
+    (subst (λ (n : ℕ). Awaits limit before old (g.S.Source.left c.args.source.now) c.args.self.now body
+    (stages.Trailers n))
     (sym c.len-scanned.ensures)
     (Trailers-awaits limit before old _ c.args.self.now body scanned c.requires (omega (arith, c.len.ensures)) d))
 

@@ -14,18 +14,22 @@ pass-requires-clause-within c =
 pub returns-then-blank-gt0-clause-ready : goal.returns-then-blank-gt0-clause-ready
 returns-then-blank-gt0-clause-ready c =
     let count = c.blank_length-blank.ensures ∙ ap blank_length c.as_slice.ensures in
-    subst IsReady (sym c.pass.ensures) (IsReady-passed c.args.self.now c.blank_length-blank.result (omega (arith, blank_length-le c.args.self.now.buffer)) c.requires)
+    subst IsReady (sym c.pass.ensures)
+    (IsReady-passed c.args.self.now c.blank_length-blank.result
+    (omega (arith, blank_length-le c.args.self.now.buffer)) c.requires)
 
 pub returns-then-blank-gt0-clause-none : goal.returns-then-blank-gt0-clause-none
 returns-then-blank-gt0-clause-none c =
     let count = c.blank_length-blank.ensures ∙ ap blank_length c.as_slice.ensures in
-    let now : c.pass.new.self ≡ passed (blank_length c.args.self.now.buffer) c.args.self.now = c.pass.ensures ∙ ap (λ n. passed n c.args.self.now) count in
+    let now : c.pass.new.self ≡ passed (blank_length c.args.self.now.buffer) c.args.self.now =
+    c.pass.ensures ∙ ap (λ n. passed n c.args.self.now) count in
     ap (λ x. blank_length x.buffer) now ∙ blank_length-skipped c.args.self.now.buffer
 
 pub returns-then-blank-gt0-clause-goes_on : goal.returns-then-blank-gt0-clause-goes_on
 returns-then-blank-gt0-clause-goes_on c = λ before after old r.
     let count = c.blank_length-blank.ensures ∙ ap blank_length c.as_slice.ensures in
-    let now : c.pass.new.self ≡ passed (blank_length c.args.self.now.buffer) c.args.self.now = c.pass.ensures ∙ ap (λ n. passed n c.args.self.now) count in
+    let now : c.pass.new.self ≡ passed (blank_length c.args.self.now.buffer) c.args.self.now =
+    c.pass.ensures ∙ ap (λ n. passed n c.args.self.now) count in
     subst (IsRead before old after) (sym now) (IsRead-passed_blank before old after c.args.self.now r)
 
 pub returns-then-blank-gt0-clause-read : goal.returns-then-blank-gt0-clause-read

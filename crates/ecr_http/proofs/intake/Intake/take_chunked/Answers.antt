@@ -29,12 +29,21 @@ returns-in-Whole-clause-takes g c =
 
 pub returns-in-Bad-clause-takes : goal.returns-in-Bad-clause-takes
 returns-in-Bad-clause-takes g c =
-    let d = c.in-Bad.ensures.goes_on _ c.args.self.now c.loop-next.invariant.decodes in record { come = d.come; shows = d.finds }
+    let d = c.in-Bad.ensures.goes_on _ c.args.self.now c.loop-next.invariant.decodes in record {
+      come = d.come;
+      shows = d.finds;
+    }
 
 pub returns-in-Long-clause-takes : goal.returns-in-Long-clause-takes
 returns-in-Long-clause-takes g c =
-    let d = c.in-Long.ensures.goes_on _ c.args.self.now c.loop-next.invariant.decodes in record { come = d.come; shows = d.finds }
+    let d = c.in-Long.ensures.goes_on _ c.args.self.now c.loop-next.invariant.decodes in record {
+      come = d.come;
+      shows = d.finds;
+    }
 
 pub returns-in-Stopped-clause-takes : goal.returns-in-Stopped-clause-takes
 returns-in-Stopped-clause-takes g c =
-    let d = c.in-Stopped.ensures.goes_on _ c.args.self.now c.loop-next.invariant.decodes in record { come = d.come; shows = d.finds }
+    let d = c.in-Stopped.ensures.goes_on _ c.args.self.now c.loop-next.invariant.decodes in record {
+      come = d.come;
+      shows = d.finds;
+    }

@@ -4,7 +4,8 @@ use Rattle.ecr_http.proofs.intake.Intake.take_chunked.Given as goal
 
 abbrev pub invariant-loop-next : goal.invariant-loop-next
 invariant-loop-next g l = record {
-  decodes : Decodes l.limit (g.S.Source.left l.initial.source) l.initial.self (g.S.Source.left l.source) l.self l.body.items l.stage;
+  decodes : Decodes l.limit (g.S.Source.left l.initial.source) l.initial.self
+      (g.S.Source.left l.source) l.self l.body.items l.stage;
   later : g.S.Source.faults l.initial.source ≤ g.S.Source.faults l.source;
 }
 

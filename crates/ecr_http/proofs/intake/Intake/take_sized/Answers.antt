@@ -7,7 +7,8 @@ pub loop-body-init : goal.loop-body-init
 loop-body-init g c =
     let left = g.S.Source.left c.args.source.now in
     record {
-      gathers = subst (λ (b : List ℕ). Gathers c.args.size left c.args.self.now left c.args.self.now b) (sym c.new-body.ensures.items)
+      gathers = subst (λ (b : List ℕ). Gathers c.args.size left c.args.self.now left c.args.self.now b)
+          (sym c.new-body.ensures.items)
           (Gathers-start c.args.size left c.args.self.now c.requires);
       later = omega arith;
     }

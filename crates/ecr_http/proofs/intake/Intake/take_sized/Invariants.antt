@@ -5,7 +5,8 @@ use Rattle.ecr_http.proofs.intake.Intake.take_sized.Given as goal
 
 abbrev pub invariant-loop-body : goal.invariant-loop-body
 invariant-loop-body g l = record {
-  gathers : Gathers l.size (g.S.Source.left l.initial.source) l.initial.self (g.S.Source.left l.source) l.self l.body.items;
+  gathers : Gathers l.size (g.S.Source.left l.initial.source) l.initial.self
+      (g.S.Source.left l.source) l.self l.body.items;
   later : g.S.Source.faults l.initial.source ≤ g.S.Source.faults l.source;
 }
 

@@ -10,6 +10,7 @@ returns-then-self-other c =
 
 pub returns-else-self-other : goal.returns-else-self-other
 returns-else-self-other c =
-    pointwise-mark_of (map (λ t. t.now) c.self.inside.texts.items) (map (λ t. t.now) c.other.inside.texts.items) c.self.inside.mark c.other.inside.mark
+    pointwise-mark_of (map (λ t. t.now) c.self.inside.texts.items)
+    (map (λ t. t.now) c.other.inside.texts.items) c.self.inside.mark c.other.inside.mark
     c.self.invariant c.other.invariant c.if-self-other.false
     ∙ (λ i. pointwise bytes_eq (c.self.view_is i) (c.other.view_is i))

@@ -18,4 +18,5 @@ invariant_of-self-2 c =
     c.args.call.now c.self.invariant later)
 
 pub returns-clause-contents : goal.returns-clause-contents
-returns-clause-contents c = (c.in_ok-outcome.ensures.made c.self.inside.limits c.args.ticket c.args.destinations.items).contents
+returns-clause-contents c =
+    (c.in_ok-outcome.ensures.made c.self.inside.limits c.args.ticket c.args.destinations.items).contents

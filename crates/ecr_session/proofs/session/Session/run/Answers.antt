@@ -22,6 +22,7 @@ loop-end-preserved g c =
     record {
       come = on.0;
       opened = on.1;
-      some = subst (λ (r : Realm). 0 < length r.served) (c.loop-end.invariant.come.realm_stays ∙ sym on.0.realm_stays) c.loop-end.invariant.some;
+      some = subst (λ (r : Realm). 0 < length r.served)
+          (c.loop-end.invariant.come.realm_stays ∙ sym on.0.realm_stays) c.loop-end.invariant.some;
       counted = omega (arith, c.loop-end.invariant.counted, c.in_default.ensures.counted);
     }

@@ -6,21 +6,25 @@ use Rattle.ecr_session.proofs.session.Session.serve.Goals as goal
 
 pub returns-in-WriteFault-clause-serves : goal.returns-in-WriteFault-clause-serves
 returns-in-WriteFault-clause-serves g c = λ left faults.
-    Answered-by _ _ _ _ c.args.self.now c.send.new.self (g.D.AnyDesk.seen c.args.desk.now) (g.D.AnyDesk.seen c.answer_request-answer.new.desk) _
+    Answered-by _ _ _ _ c.args.self.now c.send.new.self (g.D.AnyDesk.seen c.args.desk.now)
+    (g.D.AnyDesk.seen c.answer_request-answer.new.desk) _
     c.moment_of-moment.result c.answer_request-answer.result.reply c.answer_request-answer.result.places.items c.answer_request-answer.result.cut
     c.moment_of-moment.ensures c.answer_request-answer.ensures
     (ap (λ (s : Session). s.moments.items) c.send.ensures.kept ∙ c.push_reserved.ensures.items)
-    (ap (λ (s : Session). map (λ v. v.items) s.places.items) c.send.ensures.kept ∙ ap (map (λ v. v.items)) c.push_reserved-2.ensures.items ∙ map_push (λ v. v.items) _ _)
+    (ap (λ (s : Session). map (λ v. v.items) s.places.items) c.send.ensures.kept
+    ∙ ap (map (λ v. v.items)) c.push_reserved-2.ensures.items ∙ map_push (λ v. v.items) _ _)
     (ap (λ (s : Session). s.cuts.items) c.send.ensures.kept ∙ c.push_reserved-3.ensures.items)
     (ap (λ (s : Session). s.reader) c.send.ensures.kept) refl c.in-WriteFault.ensures.sends
 
 pub returns-then-closes-clause-serves : goal.returns-then-closes-clause-serves
 returns-then-closes-clause-serves g c = λ left faults. (
-  Answered-by _ _ _ _ c.args.self.now c.send.new.self (g.D.AnyDesk.seen c.args.desk.now) (g.D.AnyDesk.seen c.answer_request-answer.new.desk) _
+  Answered-by _ _ _ _ c.args.self.now c.send.new.self (g.D.AnyDesk.seen c.args.desk.now)
+      (g.D.AnyDesk.seen c.answer_request-answer.new.desk) _
       c.moment_of-moment.result c.answer_request-answer.result.reply c.answer_request-answer.result.places.items c.answer_request-answer.result.cut
       c.moment_of-moment.ensures c.answer_request-answer.ensures
       (ap (λ (s : Session). s.moments.items) c.send.ensures.kept ∙ c.push_reserved.ensures.items)
-      (ap (λ (s : Session). map (λ v. v.items) s.places.items) c.send.ensures.kept ∙ ap (map (λ v. v.items)) c.push_reserved-2.ensures.items ∙ map_push (λ v. v.items) _ _)
+      (ap (λ (s : Session). map (λ v. v.items) s.places.items) c.send.ensures.kept
+      ∙ ap (map (λ v. v.items)) c.push_reserved-2.ensures.items ∙ map_push (λ v. v.items) _ _)
       (ap (λ (s : Session). s.cuts.items) c.send.ensures.kept ∙ c.push_reserved-3.ensures.items)
       (ap (λ (s : Session). s.reader) c.send.ensures.kept) refl c.in-Done.ensures.sends,
   sym c.closes.ensures ∙ c.if-closes.true,
@@ -28,11 +32,13 @@ returns-then-closes-clause-serves g c = λ left faults. (
 
 pub returns-clause-serves : goal.returns-clause-serves
 returns-clause-serves g c = λ left faults. (
-  Answered-by _ _ _ _ c.args.self.now c.send.new.self (g.D.AnyDesk.seen c.args.desk.now) (g.D.AnyDesk.seen c.answer_request-answer.new.desk) _
+  Answered-by _ _ _ _ c.args.self.now c.send.new.self (g.D.AnyDesk.seen c.args.desk.now)
+      (g.D.AnyDesk.seen c.answer_request-answer.new.desk) _
       c.moment_of-moment.result c.answer_request-answer.result.reply c.answer_request-answer.result.places.items c.answer_request-answer.result.cut
       c.moment_of-moment.ensures c.answer_request-answer.ensures
       (ap (λ (s : Session). s.moments.items) c.send.ensures.kept ∙ c.push_reserved.ensures.items)
-      (ap (λ (s : Session). map (λ v. v.items) s.places.items) c.send.ensures.kept ∙ ap (map (λ v. v.items)) c.push_reserved-2.ensures.items ∙ map_push (λ v. v.items) _ _)
+      (ap (λ (s : Session). map (λ v. v.items) s.places.items) c.send.ensures.kept
+      ∙ ap (map (λ v. v.items)) c.push_reserved-2.ensures.items ∙ map_push (λ v. v.items) _ _)
       (ap (λ (s : Session). s.cuts.items) c.send.ensures.kept ∙ c.push_reserved-3.ensures.items)
       (ap (λ (s : Session). s.reader) c.send.ensures.kept) refl c.in-Done.ensures.sends,
   sym c.closes.ensures ∙ c.if-closes.false,
