@@ -133,6 +133,22 @@ fn messages(alloc: Global, text: &str) -> Result<Vec<u8>, AllocError> {
     Ok(bytes)
 }
 
+// The session of that name writes that output and ends like that, in pieces of at most that size.
+fn check_text_in(
+    rt: &impl Abort,
+    alloc: Global,
+    name: &str,
+    input: &[u8],
+    output: &[u8],
+    end: End,
+    size: usize,
+) -> Result<(), AllocError> {
+    let (ended, held) = run(alloc, &WORDS, &[], input, &[size])?;
+    assert!(rt; held.as_slice() == output, "{name} in pieces of {size}");
+    assert!(rt; ended.end == end, "{name} in pieces of {size}");
+    Ok(())
+}
+
 // The requests before `====` are answered by the replies behind it, and the session ends like that, in large pieces, and
 // in pieces of 1, 2 and 7 bytes.
 pub(crate) fn check_text(
@@ -146,11 +162,7 @@ pub(crate) fn check_text(
     let input = messages(alloc, requests)?;
     let output = messages(alloc, replies)?;
     for size in [1_000_000, 1, 2, 7] {
-        let (ended, held) = run(alloc, &WORDS, &[], &input, &[size])?;
-        let held = str::from_utf8(&held).unwrap_or("");
-        let output = str::from_utf8(&output).unwrap_or("");
-        assert_eq!(rt; held, output, "{name} in pieces of {size}");
-        assert!(rt; ended.end == end, "{name} in pieces of {size}");
+        check_text_in(rt, alloc, name, &input, &output, end, size)?;
     }
     Ok(())
 }
