@@ -1,19 +1,19 @@
 -- How a body is read: bytes go from the buffer to it, and more bytes come.
-use Rattle.std.proofs.Common.{◌≡◌, ℕ, ◌+◌, ◌<◌, ◌≤◌, List, [], ◌++◌, length, take, drop, Option, refl, sym, ap, ◌∙◌, subst, arith, length-append, append-nil, append_assoc}
+use Rattle.std.proofs.Common.{Vec, Global, ◌≡◌, ℕ, ◌+◌, ◌<◌, ◌≤◌, List, [], ◌++◌, length, take, drop, Option, refl, sym, ap, ◌∙◌, subst, arith, length-append, append-nil, append_assoc}
 use Rattle.std.proofs.lemmas.List.{take-append-drop}
 use Rattle.std.proofs.Math.Seq.{take-append_seam, drop-append_seam}
 use Rattle.std.proofs.KnownBytes.{Consumes-nil, Consumes-trans, Consumes-kept}
 use Rattle.std.specs.Io.KnownBytes.{Consumes, Keeps}
 use Rattle.ecr_model.specs.declared.http.Framing.TheVariants.{Sized}
 use Rattle.ecr_model.specs.sessions.Sessions.{max_read}
-use Rattle.ecr_model.specs.http.Stream.{IsBody, complete}
+use Rattle.ecr_model.specs.http.Stream.{IsBody, complete, lacks}
 use Rattle.ecr_model.proofs.lemmas.http.FrontLemmas.{IsBody-sized, IsBody-sized_open}
-use Rattle.ecr_http.specs.Bodies.{IsGot, Gathers, IsLess, IsPartial, Bodies}
-use Rattle.ecr_http.specs.Takings.{lengthened, Gains, IsStop}
-use Rattle.ecr_http.specs.declared.body.Taken.TheVariants as takens
+use Rattle.ecr_http.specs.Bodies.{IsGot, Gathers, HasBody, LacksBody}
+use Rattle.ecr_http.specs.Takings.{lengthened, Gains}
+use Rattle.ecr_http.specs.Faults.{IsFault, IsOpen}
 use Rattle.ecr_http.specs.declared.intake.Intake.{Intake}
-use Rattle.ecr_http.specs.declared.intake.Stop.{Stop}
-use Rattle.ecr_http.specs.declared.intake.Stop.TheVariants as stops
+use Rattle.ecr_http.specs.declared.fault.Fault.{Fault}
+use Rattle.ecr_http.proofs.FaultLemmas.{IsFault-open}
 
 -- with another buffer
 abbrev pub rest_of : List ℕ → Intake → Intake
@@ -21,6 +21,7 @@ rest_of buffer intake = record intake { buffer = buffer }
 
 -- ---- what came
 
+-- nothing came yet
 abbrev pub IsGot-start : (before : Option (List ℕ)) (now : Intake) → now.total ≤ max_read → IsGot before now before now
 IsGot-start before now spent = record {
   got = [];
@@ -42,6 +43,7 @@ IsGot-rest before old after now buffer come = record {
   kept = ap (rest_of buffer) come.kept;
 }
 
+-- a piece more came
 abbrev pub IsGot-lengthened : (before : Option (List ℕ)) (old : Intake) (mid after : Option (List ℕ)) (now : Intake)
     (piece : List ℕ)
     → IsGot before old mid now → Consumes mid after piece → now.total + length piece ≤ max_read
@@ -54,6 +56,7 @@ IsGot-lengthened before old mid after now piece come consumed fits = record {
   kept = ap (λ x. lengthened x piece) come.kept;
 }
 
+-- the source is as before
 abbrev pub IsGot-kept : (before : Option (List ℕ)) (old : Intake) (mid after : Option (List ℕ)) (now : Intake)
     → IsGot before old mid now → Keeps mid after → IsGot before old after now
 IsGot-kept before old mid after now come kept = record {
@@ -66,6 +69,7 @@ IsGot-kept before old mid after now come kept = record {
 
 -- ---- a body of a stated size
 
+-- no byte of the body came yet
 pub Gathers-start : (size : ℕ) (before : Option (List ℕ)) (now : Intake) → now.total ≤ max_read
     → Gathers size before now before now []
 Gathers-start size before now spent = record {
@@ -109,53 +113,49 @@ Gathers-kept size before old mid after now last body g same kept =
       at_most = g.at_most;
     })
 
-pub IsLess-from : (stop : Stop) (count size : ℕ) → count < size → IsLess stop count size
-IsLess-from stops.Ended count size few = few
-IsLess-from stops.Failed count size few = few
-IsLess-from stops.Spent count size few = few
-IsLess-from stops.Mem count size few = tt
-
-partial_from : (stop : Stop) (limit size : ℕ) (bytes : List ℕ) → size ≤ limit → IsLess stop (length bytes) size
-    → IsPartial stop limit bytes (Sized size)
-partial_from stops.Ended limit size bytes fits few = IsBody-sized_open limit size bytes fits few
-partial_from stops.Failed limit size bytes fits few = IsBody-sized_open limit size bytes fits few
-partial_from stops.Spent limit size bytes fits few = IsBody-sized_open limit size bytes fits few
-partial_from stops.Mem limit size bytes fits few = tt
-
--- a body that is whole was read
-pub Bodies-whole : (limit size : ℕ) (before : Option (List ℕ)) (old : Intake) (after : Option (List ℕ)) (now : Intake)
-    (body : List ℕ)
-    → size ≤ limit → (g : Gathers size before old after now body) → length body ≡ size
-    → IsBody limit (old.buffer ++ g.come.got) (Sized size) (complete body size)
-    × (now.buffer ≡ drop size (old.buffer ++ g.come.got))
-Bodies-whole limit size before old after now body fits g whole_size =
+-- all of the body came
+pub HasBody-whole : (limit size : ℕ) (before : Option (List ℕ)) (old : Intake) (after : Option (List ℕ)) (now : Intake)
+    (body : Vec ℕ Global)
+    → size ≤ limit → Gathers size before old after now body.items → length body.items ≡ size
+    → HasBody limit (Sized size) before old after now (record { body = body; size = size })
+HasBody-whole limit size before old after now body fits g whole_size =
     let bytes = old.buffer ++ g.come.got in
-    let there : size ≤ length bytes = omega (arith, ap length g.joined, length-append body now.buffer) in
-    let front : take size bytes ≡ body =
-    ap (take size) (sym g.joined) ∙ ap (λ (n : ℕ). take n (body ++ now.buffer)) (sym whole_size)
-    ∙ take-append_seam body now.buffer in
+    let there : size ≤ length bytes = omega (arith, ap length g.joined, length-append body.items now.buffer) in
+    let front : take size bytes ≡ body.items =
+    ap (take size) (sym g.joined) ∙ ap (λ (n : ℕ). take n (body.items ++ now.buffer)) (sym whole_size)
+    ∙ take-append_seam body.items now.buffer in
     let behind : drop size bytes ≡ now.buffer =
-    ap (drop size) (sym g.joined) ∙ ap (λ (n : ℕ). drop n (body ++ now.buffer)) (sym whole_size)
-    ∙ drop-append_seam body now.buffer in (
-      subst (λ (l : List ℕ). IsBody limit bytes (Sized size) (complete l size)) front
-          (IsBody-sized limit size bytes fits there),
-      sym behind,
-    )
+    ap (drop size) (sym g.joined) ∙ ap (λ (n : ℕ). drop n (body.items ++ now.buffer)) (sym whole_size)
+    ∙ drop-append_seam body.items now.buffer in
+    record {
+      come = g.come;
+      stands = subst (λ (l : List ℕ). IsBody limit bytes (Sized size) (complete l size)) front
+          (IsBody-sized limit size bytes fits there);
+      rest = sym behind;
+    }
 
--- a body that isn't waits for more bytes
-pub Bodies-stopped : (limit size : ℕ) (before : Option (List ℕ)) (old : Intake) (after : Option (List ℕ))
-    (now : Intake) (body : List ℕ) (stop : Stop)
-    → size ≤ limit → Gathers size before old after now body → IsLess stop (length body + length now.buffer) size
-    → IsStop stop after now.total
-    → Bodies limit (Sized size) before old after now (takens.Stopped stop)
-Bodies-stopped limit size before old after now body stop fits g few is =
-    let count : length body + length now.buffer ≡ length (old.buffer ++ g.come.got) =
+-- more bytes are needed than came, and none comes
+pub LacksBody-gathers : (limit size : ℕ) (before : Option (List ℕ)) (old : Intake) (after : Option (List ℕ))
+    (now : Intake) (body : List ℕ) (fault : Fault)
+    → size ≤ limit → Gathers size before old after now body → length body + length now.buffer < size
+    → IsFault IsOpen after now.total fault → LacksBody limit (Sized size) before old after now fault
+LacksBody-gathers limit size before old after now body fault fits g few is =
+    let bytes = old.buffer ++ g.come.got in
+    let count : length body + length now.buffer ≡ length bytes =
     sym (length-append body now.buffer) ∙ ap length g.joined in
     record {
       come = g.come;
-      shows = (
-        partial_from stop limit size (old.buffer ++ g.come.got) fits
-            (subst (λ (n : ℕ). IsLess stop n size) count few),
-        is,
-      );
+      cause = IsFault-open (λ lack. IsBody limit bytes (Sized size) (lacks lack)) after now.total fault
+          (IsBody-sized_open limit size bytes fits (subst (λ (n : ℕ). n < size) count few)) is;
     }
+
+-- one read, where more bytes are needed than came
+pub LacksBody-reads : (limit size : ℕ) (before : Option (List ℕ)) (old : Intake) (mid after : Option (List ℕ))
+    (now last : Intake) (body : List ℕ) (fault : Fault)
+    → size ≤ limit → Gathers size before old mid now body → length body + length now.buffer < size
+    → (last ≡ now) × Keeps mid after × IsFault IsOpen after now.total fault
+    → LacksBody limit (Sized size) before old after last fault
+LacksBody-reads limit size before old mid after now last body fault fits g few reads =
+    subst (λ (x : Intake). LacksBody limit (Sized size) before old after x fault) (sym reads.0)
+    (LacksBody-gathers limit size before old after now body fault fits
+    (Gathers-kept size before old mid after now now body g refl reads.1) few reads.2)

@@ -1,5 +1,5 @@
 -- How the decoding of a chunked body goes on, over plain values.
-use Rattle.std.proofs.Common.{◌≡◌, ℕ, zero, suc, ◌+◌, ◌-◌, ◌<◌, ◌≤◌, min, List, [], ◌∷◌, ◌++◌, length, take, drop, Option, Some, None, refl, sym, ap, ap₂, ◌∙◌, subst, arith, length-append, length-drop, append-nil, append_assoc}
+use Rattle.std.proofs.Common.{◌≡◌, ℕ, zero, suc, ◌+◌, ◌-◌, ◌<◌, ◌≤◌, min, true, false, List, [], ◌∷◌, ◌++◌, length, take, drop, Option, Some, None, Ok, Err, refl, sym, ap, ap₂, ◌∙◌, subst, arith, length-append, length-drop, append-nil, append_assoc}
 use Rattle.std.specs.Io.KnownBytes.{Keeps}
 use Rattle.std.proofs.lemmas.List.{drop-append-le, drop-drop, take-append-drop, length-take}
 use Rattle.std.proofs.Math.Seq.{drop-append_seam}
@@ -9,21 +9,23 @@ use Rattle.httparse.proofs.ChunkLemmas.{chunk_line_unique}
 use Rattle.ecr_model.specs.declared.http.Framing.TheVariants.{Chunked}
 use Rattle.ecr_model.specs.http.Framing.{ends_empty, IsEnd, HasNoEnd, EndsAt}
 use Rattle.ecr_model.specs.http.Fronts.{Lack, bad, too_long, open_, lacks, complete}
+use Rattle.ecr_model.specs.http.Stream.{IsBody}
 use Rattle.ecr_model.specs.http.Chunks.{max_chunk_line, max_trailers, line_end, Says, Part, chunk, lacking, if_crlf, Progress, begun, with_more, past_chunk, Comes, Chunks, IsPart, IsChunked}
 use Rattle.ecr_model.specs.sessions.Sessions.{max_read}
 use Rattle.ecr_model.proofs.lemmas.http.FramingLemmas.{HasNoEnd-append}
 use Rattle.ecr_model.proofs.lemmas.http.ChunkLemmas.{line_end-is, line_end-append, Says-append, Chunks-append, Chunks-more, Chunks-length}
 use Rattle.ecr_model.proofs.lemmas.http.PartLemmas.{IsPart-open_line, IsPart-long_line, IsPart-no_size, IsPart-over, IsPart-data, IsPart-open_data, IsPart-last, IsPart-open_trailers, IsPart-long_trailers, Chunks-ahead, IsChunked-lacks, IsChunked-whole}
-use Rattle.ecr_http.specs.Takings.{Gains, IsStop, left_to_read}
-use Rattle.ecr_http.specs.Bodies.{IsPartial}
+use Rattle.ecr_http.specs.Takings.{Gains, left_to_read}
+use Rattle.ecr_http.specs.Faults.{IsFault, IsOpen}
+use Rattle.ecr_http.specs.Bodies.{HasBody, LacksBody}
 use Rattle.ecr_http.specs.Decoding.{IsClosed, HasLine, IsInData, IsInTrailers, StandsAt, Decodes, Awaits, Decoded, rank, left_to_do}
 use Rattle.ecr_http.specs.declared.intake.Intake.{Intake}
-use Rattle.ecr_http.specs.declared.intake.Stop.{Stop}
-use Rattle.ecr_http.specs.declared.intake.Stop.TheVariants as stops
-use Rattle.ecr_http.specs.declared.chunk_line.Closing.TheVariants as closings
+use Rattle.ecr_http.specs.declared.fault.Fault.{Fault}
+use Rattle.ecr_http.specs.declared.fault.Fault.TheVariants as faults
+use Rattle.ecr_http.specs.declared.body.Taken.{Taken}
 use Rattle.ecr_http.specs.declared.chunks.Stage.{Stage}
 use Rattle.ecr_http.specs.declared.chunks.Stage.TheVariants as stages
-use Rattle.ecr_http.specs.declared.chunks.Next.TheVariants as nexts
+use Rattle.ecr_http.proofs.FaultLemmas.{IsFault-open}
 use Rattle.ecr_http.proofs.BodyLemmas.{rest_of, IsGot-start, IsGot-rest, IsGot-lengthened, IsGot-kept}
 
 -- ---- a line
@@ -98,22 +100,17 @@ Decodes-gains limit before old mid after now last body stage d gains =
 
 -- ---- none come
 
-IsPartial-from : (stop : Stop) (limit : ℕ) (bytes : List ℕ) → IsChunked limit bytes (lacks open_)
-    → IsPartial stop limit bytes Chunked
-IsPartial-from stops.Ended limit bytes less = less
-IsPartial-from stops.Failed limit bytes less = less
-IsPartial-from stops.Spent limit bytes less = less
-IsPartial-from stops.Mem limit bytes less = tt
-
+-- more bytes are needed, and none comes
 pub Awaits-stops : (limit : ℕ) (before : Option (List ℕ)) (old : Intake) (mid after : Option (List ℕ))
     (now last : Intake)
-    (body : List ℕ) (stage : Stage) (stop : Stop) → Awaits limit before old mid now body stage → last ≡ now
-    → Keeps mid after
-    → IsStop stop after now.total → Decoded limit before old after last body (nexts.Stopped stop)
-Awaits-stops limit before old mid after now last body stage stop awaits same kept stops_ =
-    subst (λ (x : Intake). Decoded limit before old after x body (nexts.Stopped stop)) (sym same) (record {
+    (body : List ℕ) (stage : Stage) (fault : Fault) → Awaits limit before old mid now body stage → last ≡ now
+    → Keeps mid after → IsFault IsOpen after now.total fault
+    → LacksBody limit Chunked before old after last fault
+Awaits-stops limit before old mid after now last body stage fault awaits same kept is =
+    let bytes = old.buffer ++ awaits.decodes.come.got in
+    subst (λ (x : Intake). LacksBody limit Chunked before old after x fault) (sym same) (record {
       come = IsGot-kept before old mid after now awaits.decodes.come kept;
-      finds = (IsPartial-from stop limit (old.buffer ++ awaits.decodes.come.got) awaits.less, stops_);
+      cause = IsFault-open (λ lack. IsBody limit bytes Chunked (lacks lack)) after now.total fault awaits.less is;
     })
 
 -- ---- what is found
@@ -152,10 +149,10 @@ pub Line-long : (limit : ℕ) (before : Option (List ℕ)) (old : Intake) (after
     (body : List ℕ)
     → line_end now.buffer ≡ None → max_chunk_line ≤ length now.buffer
     → Decodes limit before old after now body stages.Line
-    → Decoded limit before old after now body nexts.Bad
+    → LacksBody limit Chunked before old after now faults.Bad
 Line-long limit before old after now body ends long d = record {
   come = d.come;
-  finds = found_lack limit before old after now body stages.Line bad d
+  cause = found_lack limit before old after now body stages.Line bad d
       (line_part limit d.progress body now.buffer (lacking bad) d.stands
       (λ so_far same. IsPart-long_line limit so_far now.buffer ends long));
 }
@@ -163,10 +160,10 @@ Line-long limit before old after now body ends long d = record {
 pub Line-no_size : (limit : ℕ) (before : Option (List ℕ)) (old : Intake) (after : Option (List ℕ)) (now : Intake)
     (body : List ℕ)
     (place : ℕ) → line_end now.buffer ≡ Some place → Says (take (suc place) now.buffer) None
-    → Decodes limit before old after now body stages.Line → Decoded limit before old after now body nexts.Bad
+    → Decodes limit before old after now body stages.Line → LacksBody limit Chunked before old after now faults.Bad
 Line-no_size limit before old after now body place ends says d = record {
   come = d.come;
-  finds = found_lack limit before old after now body stages.Line bad d
+  cause = found_lack limit before old after now body stages.Line bad d
       (line_part limit d.progress body now.buffer (lacking bad) d.stands
       (λ so_far same. IsPart-no_size limit so_far now.buffer place ends says));
 }
@@ -175,10 +172,10 @@ pub Line-over : (limit : ℕ) (before : Option (List ℕ)) (old : Intake) (after
     (body : List ℕ)
     (place size : ℕ) → line_end now.buffer ≡ Some place → Says (take (suc place) now.buffer) (Some size) → 0 < size
     → limit < length body + size → Decodes limit before old after now body stages.Line
-    → Decoded limit before old after now body (nexts.Long limit)
+    → LacksBody limit Chunked before old after now (faults.TooLong limit)
 Line-over limit before old after now body place size ends says some over d = record {
   come = d.come;
-  finds = found_lack limit before old after now body stages.Line (too_long limit) d
+  cause = found_lack limit before old after now body stages.Line (too_long limit) d
       (line_part limit d.progress body now.buffer (lacking (too_long limit)) d.stands
       (λ so_far same. IsPart-over limit so_far now.buffer place size ends says some (omega arith)));
 }
@@ -297,7 +294,7 @@ data_part limit p body buffer d =
 
 pub Data-closes : (limit : ℕ) (before : Option (List ℕ)) (old : Intake) (after : Option (List ℕ)) (now : Intake)
     (body : List ℕ)
-    → IsClosed now.buffer closings.Crlf → Decodes limit before old after now body (stages.Data 0)
+    → IsClosed now.buffer (Ok true) → Decodes limit before old after now body (stages.Data 0)
     → Decodes limit before old after (rest_of (drop 2 now.buffer) now) body stages.Line
 Data-closes limit before old after now body closed d = record {
   come = IsGot-rest before old after now (drop 2 now.buffer) d.come;
@@ -324,7 +321,7 @@ Data-closes limit before old after now body closed d = record {
 
 pub Data-unclosed : (limit : ℕ) (before : Option (List ℕ)) (old : Intake) (after : Option (List ℕ)) (now : Intake)
     (body : List ℕ)
-    → IsClosed now.buffer closings.Less → Decodes limit before old after now body (stages.Data 0)
+    → IsClosed now.buffer (Ok false) → Decodes limit before old after now body (stages.Data 0)
     → Awaits limit before old after now body (stages.Data 0)
 Data-unclosed limit before old after now body closed d = record {
   decodes = d;
@@ -336,13 +333,13 @@ Data-unclosed limit before old after now body closed d = record {
 
 pub Data-ill_closed : (limit : ℕ) (before : Option (List ℕ)) (old : Intake) (after : Option (List ℕ)) (now : Intake)
     (body : List ℕ)
-    → IsClosed now.buffer closings.Other → Decodes limit before old after now body (stages.Data 0)
-    → Decoded limit before old after now body nexts.Bad
+    → IsClosed now.buffer (Err faults.Bad) → Decodes limit before old after now body (stages.Data 0)
+    → LacksBody limit Chunked before old after now faults.Bad
 Data-ill_closed limit before old after now body closed d = record {
   come = d.come;
-  finds = found_lack limit before old after now body (stages.Data 0) bad d
+  cause = found_lack limit before old after now body (stages.Data 0) bad d
       (subst (λ (part : Part). Comes limit d.progress part)
-      (closed (chunk d.stands.came (suc d.stands.place + d.stands.size + 2)))
+      (closed.1 (chunk d.stands.came (suc d.stands.place + d.stands.size + 2)))
       (data_part limit d.progress body now.buffer d.stands));
 }
 
@@ -352,10 +349,13 @@ pub Trailers-whole : (limit : ℕ) (before : Option (List ℕ)) (old : Intake) (
     (body : List ℕ)
     (scanned end : ℕ) → IsEnd (1 + max_trailers) now.buffer end
     → Decodes limit before old after now body (stages.Trailers scanned)
-    → Decoded limit before old after (rest_of (drop end now.buffer) now) body nexts.Whole
+    → Decoded limit before old after (rest_of (drop end now.buffer) now) body
 Trailers-whole limit before old after now body scanned end ends d = record {
   come = IsGot-rest before old after now (drop end now.buffer) d.come;
-  finds = (total, count, whole, rest);
+  size = total;
+  counted = count;
+  whole = whole;
+  rest = rest;
 }
   where
     bytes : List ℕ
@@ -428,10 +428,10 @@ pub Trailers-long : (limit : ℕ) (before : Option (List ℕ)) (old : Intake) (a
     (body : List ℕ)
     (scanned : ℕ) → EndsAt (1 + max_trailers) now.buffer None → max_trailers < length now.buffer
     → Decodes limit before old after now body (stages.Trailers scanned)
-    → Decoded limit before old after now body (nexts.Long max_trailers)
+    → LacksBody limit Chunked before old after now (faults.TooLong max_trailers)
 Trailers-long limit before old after now body scanned none long d = record {
   come = d.come;
-  finds = found_lack limit before old after now body (stages.Trailers scanned) (too_long max_trailers) d
+  cause = found_lack limit before old after now body (stages.Trailers scanned) (too_long max_trailers) d
       (IsPart-long_trailers limit
       (length d.progress.body) d.progress.ahead d.stands.place d.stands.line.ends d.stands.line.says
       (none_ends limit d.progress body now.buffer scanned d.stands none)
@@ -468,26 +468,28 @@ Decodes-start limit before now body none spent = record {
 -- how many bytes a whole body took, by how many came
 took : (limit : ℕ) (before : Option (List ℕ)) (old : Intake) (after : Option (List ℕ)) (now : Intake) (body : List ℕ)
     (held size : ℕ)
-    (d : Decoded limit before old after now body nexts.Whole) → held ≡ length old.buffer
-    → size ≡ held + (now.total - old.total) - length now.buffer → d.finds.0 ≡ size
+    (d : Decoded limit before old after now body) → held ≡ length old.buffer
+    → size ≡ held + (now.total - old.total) - length now.buffer → d.size ≡ size
 took limit before old after now body held size d all is =
-    omega (arith, d.finds.1, d.come.counted, length-append old.buffer d.come.got)
+    omega (arith, d.counted, d.come.counted, length-append old.buffer d.come.got)
 
-pub whole_shows : (limit : ℕ) (before : Option (List ℕ)) (old : Intake) (after : Option (List ℕ)) (now : Intake)
-    (body : List ℕ)
-    (held size : ℕ) (d : Decoded limit before old after now body nexts.Whole) → held ≡ length old.buffer
-    → size ≡ held + (now.total - old.total) - length now.buffer
-    → IsChunked limit (old.buffer ++ d.come.got) (complete body size)
-    × (now.buffer ≡ drop size (old.buffer ++ d.come.got))
-whole_shows limit before old after now body held size d all is =
-    let count : d.finds.0 ≡ size = took limit before old after now body held size d all is in (
-      subst (λ (n : ℕ). IsChunked limit (old.buffer ++ d.come.got) (complete body n)) count d.finds.2,
-      subst (λ (n : ℕ). now.buffer ≡ drop n (old.buffer ++ d.come.got)) count d.finds.3,
-    )
+-- the body that was decoded stands at the front, and took as many bytes as went from the buffer
+pub HasBody-decoded : (limit : ℕ) (before : Option (List ℕ)) (old : Intake) (after : Option (List ℕ)) (now : Intake)
+    (held : ℕ) (taken : Taken) (d : Decoded limit before old after now taken.body.items) → held ≡ length old.buffer
+    → taken.size ≡ held + (now.total - old.total) - length now.buffer
+    → HasBody limit Chunked before old after now taken
+HasBody-decoded limit before old after now held taken d all is =
+    let count : d.size ≡ taken.size = took limit before old after now taken.body.items held taken.size d all is in
+    record {
+      come = d.come;
+      stands = subst (λ (n : ℕ). IsChunked limit (old.buffer ++ d.come.got) (complete taken.body.items n)) count d.whole;
+      rest = subst (λ (n : ℕ). now.buffer ≡ drop n (old.buffer ++ d.come.got)) count d.rest;
+    }
 
-pub whole_fits : (limit : ℕ) (before : Option (List ℕ)) (old : Intake) (after : Option (List ℕ)) (now : Intake)
+-- no more bytes are left than there were and came
+pub Decoded-rest : (limit : ℕ) (before : Option (List ℕ)) (old : Intake) (after : Option (List ℕ)) (now : Intake)
     (body : List ℕ)
-    (held : ℕ) (d : Decoded limit before old after now body nexts.Whole) → held ≡ length old.buffer
+    (held : ℕ) (d : Decoded limit before old after now body) → held ≡ length old.buffer
     → length now.buffer ≤ held + (now.total - old.total)
-whole_fits limit before old after now body held d all =
-    omega (arith, d.finds.1, d.come.counted, length-append old.buffer d.come.got)
+Decoded-rest limit before old after now body held d all =
+    omega (arith, d.counted, d.come.counted, length-append old.buffer d.come.got)

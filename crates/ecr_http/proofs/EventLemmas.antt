@@ -1,191 +1,186 @@
--- What is given for what stands at the front of the bytes that come.
-use Rattle.std.proofs.Common.{Vec, Global, ◌≡◌, ℕ, ◌+◌, ◌<◌, ◌≤◌, ◌==◌, ◌&&◌, inl, inr, ⊎_elim, codes, nat_lt, Bool, true, false, List, [], ◌++◌, length, take, drop, Option, Some, None, refl, sym, ap, ap₂, ◌∙◌, subst, subst₂, arith, length-append, length-drop, append-nil, append_assoc}
-use Rattle.std.proofs.lemmas.Bool.{ne_eqb, lt-leb, cases_lt}
-use Rattle.std.specs.Option.{option_map_or}
-use Rattle.std.proofs.lemmas.List.{drop-append-le}
+-- The event of a request, or of the fault in its place, is the one that the stream gives.
+use Rattle.std.proofs.Common.{◌≡◌, ℕ, ◌+◌, ◌<◌, ◌≤◌, ◌==◌, inl, Bool, true, false, List, [], ◌++◌, length, take, drop, Option, Some, refl, sym, ap, ◌∙◌, subst, arith, length-append, length-drop, append-nil, ◌≢◌, if◌then◌else◌, Result, Ok, Err}
+use Rattle.std.proofs.lemmas.Bool.{ne_eqb, eqb-true, eqb-false}
+use Rattle.std.proofs.lemmas.List.{nil_from_length}
 use Rattle.std.proofs.KnownBytes.{Appends-nil, Consumes-trans, Consumes-nil}
 use Rattle.std.specs.Io.KnownBytes.{Appends}
-use Rattle.ecr_model.specs.declared.http.Framing.{Framing}
-use Rattle.ecr_model.specs.declared.http.Framing.TheVariants.{Sized, Chunked}
-use Rattle.ecr_model.specs.http.Fields.{first_says}
 use Rattle.ecr_model.specs.declared.http.Head.{Head}
 use Rattle.ecr_model.specs.declared.http.Request.{Request}
-use Rattle.ecr_model.specs.http.Framing.{max_head, max_body, IsEnd, Parses, framing_of, is_sent, waits}
+use Rattle.ecr_model.specs.http.Framing.{max_head, IsEnd, Parses, waits}
 use Rattle.ecr_model.specs.http.Replies.{interim}
-use Rattle.ecr_model.specs.sessions.Sessions.{max_read, is_waiting}
-use Rattle.ecr_model.specs.http.Stream.{blank_length, Lack, bad, too_long, open_, BodyFront, complete, lacks, IsBody, with_body, Front, whole, short, IsFront, Point, grown, past_blank, Meets, AwaitsBody, past, closes, Tail, Lacks, tail_of, ended, truncated, bad_at, long_at, more, request_of}
-use Rattle.ecr_model.proofs.lemmas.http.FramingLemmas.{IsEnd-append, IsEnd-positive}
-use Rattle.ecr_model.proofs.lemmas.http.FrontLemmas.{Parses-append, IsBody-length, IsBody-sized_long, IsFront-nil, IsFront-long, IsFront-no_grammar, IsFront-body, IsFront-unframed, IsFront-whole_length}
-use Rattle.ecr_model.proofs.lemmas.http.StreamLemmas.{blank_length-le, blank_length-drop, blank_length-append}
-use Rattle.ecr_http.specs.Bodies.{FitsLimit, IsPartial, Bodies}
-use Rattle.ecr_http.specs.Events.{closes_after, point_of, Fronts, HasHead, Behind}
-use Rattle.ecr_http.specs.Leads.{IsReady, IsRead, Leads}
+use Rattle.ecr_model.specs.sessions.Sessions.{max_read}
+use Rattle.ecr_model.specs.http.Stream.{blank_length, bad, too_long, open_, whole, short, IsFront, Point, grown, AwaitsBody, ended, truncated, bad_at, long_at, more}
+use Rattle.ecr_model.proofs.lemmas.http.FrontLemmas.{IsFront-nil, IsFront-unique}
+use Rattle.ecr_model.proofs.lemmas.http.StreamLemmas.{blank_length-le}
+use Rattle.ecr_http.specs.Events.{closes_after, point_of, Fronts, Behind, event_of, Turns}
+use Rattle.ecr_http.specs.Leads.{IsReady, IsRead, LacksRequest}
 use Rattle.ecr_http.specs.Sends.{Sends}
-use Rattle.ecr_http.specs.declared.lead.Lead.TheVariants as leads
 use Rattle.ecr_http.specs.declared.write.Sent.TheVariants.{WriteFault}
-use Rattle.ecr_http.specs.Reading.{MayTell, Gives, bytes_read, IsUnspent, Nexts}
-use Rattle.ecr_http.specs.Takings.{IsStop}
-use Rattle.ecr_http.specs.declared.body.Taken.TheVariants as takens
-use Rattle.ecr_http.specs.declared.events.Event.{Event}
-use Rattle.ecr_http.specs.declared.events.Event.TheVariants as events
+use Rattle.ecr_http.specs.Reading.{MayTell, bytes_read, GivesEvent, HasReadsLeft}
 use Rattle.ecr_http.specs.declared.intake.Intake.{Intake}
-use Rattle.ecr_http.specs.declared.intake.Stop.{Stop}
-use Rattle.ecr_http.specs.declared.intake.Stop.TheVariants as stops
-use Rattle.ecr_http.proofs.BodyLemmas.{rest_of}
-use Rattle.ecr_http.proofs.LeadLemmas.{HasNoEnd-zero, blank_length-grows, drop-drop}
-
--- ---- the point past the blank bytes
-
-pub record Settled (p : Point) (at : ℕ) (bytes : List ℕ) : Type 0 where
-  pub at_is : (past_blank p).at ≡ at
-  pub ahead_is : (past_blank p).ahead ≡ bytes
-
-settled_bytes : (all others buffer : List ℕ) (skipped : ℕ) → skipped ≤ blank_length all → buffer ≡ drop skipped all
-    → blank_length (buffer ++ others) ≡ 0
-    → (blank_length (all ++ others) ≡ skipped) × (drop skipped (all ++ others) ≡ buffer ++ others)
-settled_bytes all others buffer skipped blank is none =
-    let within : skipped ≤ length all = omega (arith, blank_length-le all) in
-    let behind : drop skipped (all ++ others) ≡ buffer ++ others =
-    drop-append-le skipped all others within ∙ ap (λ (l : List ℕ). l ++ others) (sym is) in
-    let few : skipped ≤ blank_length (all ++ others) = omega (arith, blank_length-grows all others) in
-    let total = blank_length-drop (all ++ others) skipped few in
-    let rest : blank_length (drop skipped (all ++ others)) ≡ 0 = ap blank_length behind ∙ none in
-    (omega arith, behind)
-
-pub Settled-read : (before : Option (List ℕ)) (old : Intake) (after : Option (List ℕ)) (now : Intake) (others : List ℕ)
-    → (r : IsRead before old after now) → blank_length (now.buffer ++ others) ≡ 0
-    → Settled (grown (point_of old false) (r.got ++ others)) now.at (now.buffer ++ others)
-Settled-read before old after now others r none =
-    let all = old.buffer ++ r.got in
-    let same : all ++ others ≡ old.buffer ++ (r.got ++ others) = append_assoc old.buffer r.got others in
-    let parts = settled_bytes all others now.buffer r.skipped r.blank r.buffered none in
-    subst (λ (l : List ℕ). Settled (record { at = old.at; ahead = l; closed = false }) now.at
-    (now.buffer ++ others)) same (record {
-      at_is = ap (λ (k : ℕ). old.at + k) parts.0 ∙ sym r.placed;
-      ahead_is = ap (λ (k : ℕ). drop k (all ++ others)) parts.0 ∙ parts.1;
-    })
-
-meets : (p : Point) (at : ℕ) (bytes : List ℕ) (front : Front) → Settled p at bytes → IsFront at bytes front
-    → Meets p front
-meets p at bytes front s is =
-    subst₂ (λ (k : ℕ) (l : List ℕ). IsFront k l front) (sym s.at_is) (sym s.ahead_is) is
-
-pub AwaitsBody-head : (p : Point) (at : ℕ) (bytes : List ℕ) (count : ℕ) (head : Head) → Settled p at bytes
-    → IsEnd max_head bytes count → Parses (take count bytes) (Some head) → waits head ≡ true → AwaitsBody p
-AwaitsBody-head p at bytes count head s ends parses waiting = record {
-  end = count;
-  head = head;
-  ends = subst (λ (l : List ℕ). IsEnd max_head l count) (sym s.ahead_is) ends;
-  parses = subst (λ (l : List ℕ). Parses (take count l) (Some head)) (sym s.ahead_is) parses;
-  waiting = waiting;
-}
-
-pub MayTell-due : (p : Point) (due : Bool) → (due ≡ true → AwaitsBody p) → MayTell p (interim due)
-unfolding interim
-MayTell-due p true awaits = inr (awaits refl, refl)
-MayTell-due p false awaits = inl refl
+use Rattle.std.specs.Prelude.{OnOk}
+use Rattle.ecr_http.specs.declared.fault.Fault.{Fault}
+use Rattle.ecr_http.proofs.SettledLemmas.{Settled, Settled-read, Settled-length, Meets-front, AwaitsBody-head, Lacks-front, past-used}
+use Rattle.ecr_http.specs.declared.events.Event.TheVariants as events
+use Rattle.ecr_http.specs.declared.fault.Fault.TheVariants as faults
 
 -- ---- each event
 
-lacks_by : (over : Bool) (p : Point) (at : ℕ) (bytes : List ℕ) (front : Front) (tail : Tail) → Settled p at bytes
-    → IsFront at bytes front
-    → tail_of over (record { at = at; ahead = bytes; closed = p.closed }) front ≡ Some tail → Lacks over p tail
-lacks_by over p at bytes front tail s is tails = record {
-  front = front;
-  meets = meets p at bytes front s is;
-  is = subst₂ (λ (k : ℕ) (l : List ℕ). tail_of over (record { at = k; ahead = l; closed = p.closed }) front
-      ≡ Some tail) (sym s.at_is) (sym s.ahead_is) tails;
-}
-
-abbrev point_at : ℕ → List ℕ → Request → Point
-point_at k l q = record { at = k; ahead = l; closed = closes q }
-
-past_is : (p : Point) (at : ℕ) (bytes : List ℕ) (r : Request) (count : ℕ) (now : Intake) → Settled p at bytes
-    → now.at ≡ at + count
-    → now.buffer ≡ drop count bytes → point_of now (closes r) ≡ past p r count
-past_is p at bytes r count now s used left =
-    ap₂ (λ (k : ℕ) (l : List ℕ). point_at k l r) (used ∙ ap (λ (k : ℕ). k + count) (sym s.at_is))
-    (left ∙ ap (drop count) (sym s.ahead_is))
-
-pub Gives-fronts : (p : Point) (at : ℕ) (bytes : List ℕ) (now : Intake) (left held told : Option (List ℕ))
-    (due : Bool) (event : Event)
-    → Settled p at bytes → now.total ≡ p.at + length p.ahead → now.total ≤ max_read → Appends held told (interim due)
-    → MayTell p (interim due)
-    → Fronts at bytes now left due event → Gives p (point_of now (closes_after event)) left held told event
-Gives-fronts p at bytes now left held told due (events.Request r) s total spent says may f = (
-  f.0,
-  meets p at bytes (whole r f.0) s f.1,
-  past_is p at bytes r f.0 now s f.2 f.3,
-  subst (λ (d : Bool). Appends held told (interim d)) (sym f.5) says,
-)
-Gives-fronts p at bytes now left held told due events.End s total spent says may f = (
-  (
-    false,
-    lacks_by true p at bytes (short false open_) (record { due = false; ending = ended }) s
-        (subst (λ (l : List ℕ). IsFront at l (short false open_)) (sym f.0) (IsFront-nil at))
-        (rw f.0 refl),
-    subst (λ (d : Bool). Appends held told (interim d)) f.1 says,
-  ),
-  f.2,
-)
-Gives-fronts p at bytes now left held told due (events.Truncated place) s total spent says may f =
-    let some : (length bytes == 0) ≡ false = ne_eqb (length bytes) 0 (λ none. omega (arith, f.2)) in (
+-- the source has ended: between two requests, where all that was read was used, or inside one
+GivesEvent-ended : (p : Point) (at : ℕ) (bytes : List ℕ) (now : Intake) (left held told : Option (List ℕ))
+    (due all_used : Bool)
+    → (now.at == now.total) ≡ all_used
+    → Settled p at bytes → now.total ≡ p.at + length p.ahead → Appends held told (interim due)
+    → Fronts at bytes now left due (Err faults.Ended)
+    → GivesEvent p (point_of now (closes_after (event_of now (Err faults.Ended)))) left held told
+    (event_of now (Err faults.Ended))
+GivesEvent-ended p at bytes now left held told due true same s total says f =
+    let place : now.at ≡ at = f.1 in
+    let used : now.at ≡ now.total = eqb-true now.at now.total same in
+    let none : bytes ≡ [] = nil_from_length bytes (omega (arith, Settled-length p at bytes s)) in
+    let front : IsFront at [] (short due open_) = subst (λ (l : List ℕ). IsFront at l (short due open_)) none f.0.0 in
+    let one : short due open_ ≡ short false open_ =
+    IsFront-unique at [] (short due open_) (short false open_) front (IsFront-nil at) in
+    let undue : due ≡ false = cc in
+    subst (λ (b : Bool). GivesEvent p (point_of now (closes_after (if b then events.End else events.Truncated now.at)))
+    left held told (if b then events.End else events.Truncated now.at)) (sym same) (
+      (
+        false,
+        Lacks-front true p at bytes (short false open_) (record { due = false; ending = ended }) s
+            (subst (λ (l : List ℕ). IsFront at l (short false open_)) (sym none) (IsFront-nil at))
+            (rw none refl),
+        subst (λ (d : Bool). Appends held told (interim d)) undue says,
+      ),
+      f.0.1,
+    )
+GivesEvent-ended p at bytes now left held told due false same s total says f =
+    let place : now.at ≡ at = f.1 in
+    let unused : now.at ≢ now.total = eqb-false now.at now.total same in
+    let some : (length bytes == 0) ≡ false =
+    ne_eqb (length bytes) 0 (λ none. unused (omega (arith, Settled-length p at bytes s))) in
+    subst (λ (b : Bool). GivesEvent p (point_of now (closes_after (if b then events.End else events.Truncated now.at)))
+    left held told (if b then events.End else events.Truncated now.at)) (sym same) (
       (
         due,
-        lacks_by true p at bytes (short due open_) (record { due = due; ending = truncated place }) s f.1
-            (rw some (ap (λ (k : ℕ). Some (record { due = due; ending = truncated k })) (sym f.0))),
+        Lacks-front true p at bytes (short due open_) (record { due = due; ending = truncated now.at }) s f.0.0
+            (rw some (ap (λ (k : ℕ). Some (record { due = due; ending = truncated k })) (sym f.1))),
         says,
       ),
-      f.3,
+      f.0.1,
     )
-Gives-fronts p at bytes now left held told due (events.Bad place) s total spent says may f = (
+
+-- the event for a request, or for a fault in its place, is the one that the stream gives
+pub GivesEvent-fronts : (p : Point) (at : ℕ) (bytes : List ℕ) (now : Intake) (left held told : Option (List ℕ))
+    (due : Bool) (result : Result Request Fault)
+    → Settled p at bytes → now.total ≡ p.at + length p.ahead → now.total ≤ max_read → Appends held told (interim due)
+    → MayTell p (interim due)
+    → Fronts at bytes now left due result
+    → GivesEvent p (point_of now (closes_after (event_of now result))) left held told (event_of now result)
+GivesEvent-fronts p at bytes now left held told due (Ok r) s total spent says may f = (
+  f.0,
+  Meets-front p at bytes (whole r f.0) s f.1,
+  past-used p at bytes r f.0 now s f.2 f.3,
+  subst (λ (d : Bool). Appends held told (interim d)) (sym f.5) says,
+)
+GivesEvent-fronts p at bytes now left held told due (Err faults.Ended) s total spent says may f =
+    GivesEvent-ended p at bytes now left held told due (now.at == now.total) refl s total says f
+GivesEvent-fronts p at bytes now left held told due (Err faults.ReadFault) s total spent says may f = (
   due,
-  lacks_by false p at bytes (short due bad) (record { due = due; ending = bad_at place }) s f.1
-      (ap (λ (k : ℕ). Some (record { due = due; ending = bad_at k })) (sym f.0)),
+  Lacks-front false p at bytes (short due open_) (record { due = due; ending = more }) s f.0.0 refl,
   says,
 )
-Gives-fronts p at bytes now left held told due (events.TooLong place limit) s total spent says may f = (
-  due,
-  lacks_by false p at bytes (short due (too_long limit)) (record { due = due; ending = long_at place limit }) s f.1
-      (ap (λ (k : ℕ). Some (record { due = due; ending = long_at k limit })) (sym f.0)),
-  says,
-)
-Gives-fronts p at bytes now left held told due events.ReadFault s total spent says may f = (
-  due,
-  lacks_by false p at bytes (short due open_) (record { due = due; ending = more }) s f.0 refl,
-  says,
-)
-Gives-fronts p at bytes now left held told due events.WriteFault s total spent says may f = absurd f
-Gives-fronts p at bytes now left held told due events.Spent s total spent says may f = (
+GivesEvent-fronts p at bytes now left held told due (Err faults.WriteFault) s total spent says may f = absurd f.0
+GivesEvent-fronts p at bytes now left held told due (Err faults.Spent) s total spent says may f = (
   (
     due,
-    lacks_by false p at bytes (short due open_) (record { due = due; ending = more }) s f.0 refl,
+    Lacks-front false p at bytes (short due open_) (record { due = due; ending = more }) s f.0.0 refl,
     says,
   ),
-  omega (arith, f.1),
+  omega (arith, f.0.1),
 )
-Gives-fronts p at bytes now left held told due events.Mem s total spent says may f = (interim due, may, says)
+GivesEvent-fronts p at bytes now left held told due (Err faults.Mem) s total spent says may f = (interim due, may, says)
+GivesEvent-fronts p at bytes now left held told due (Err faults.Bad) s total spent says may f = (
+  due,
+  Lacks-front false p at bytes (short due bad) (record { due = due; ending = bad_at now.at }) s f.0
+      (ap (λ (k : ℕ). Some (record { due = due; ending = bad_at k })) (sym f.1)),
+  says,
+)
+GivesEvent-fronts p at bytes now left held told due (Err (faults.TooLong limit)) s total spent says may f = (
+  due,
+  Lacks-front false p at bytes (short due (too_long limit)) (record { due = due; ending = long_at now.at limit }) s f.0
+      (ap (λ (k : ℕ). Some (record { due = due; ending = long_at k limit })) (sym f.1)),
+  says,
+)
+
+reads_left-ended : (all_used : Bool) (at size : ℕ) → size < max_read
+    → HasReadsLeft size (if all_used then events.End else events.Truncated at)
+reads_left-ended true at size less = less
+reads_left-ended false at size less = less
 
 -- a read that gave nothing was made where more may be read
-pub IsUnspent-fronts : (at : ℕ) (bytes : List ℕ) (now : Intake) (left : Option (List ℕ)) (due : Bool) (size : ℕ)
-    (event : Event)
-    → now.total ≡ size → Fronts at bytes now left due event → IsUnspent size event
-IsUnspent-fronts at bytes now left due size (events.Request r) total f = tt
-IsUnspent-fronts at bytes now left due size events.End total f = omega (arith, f.3)
-IsUnspent-fronts at bytes now left due size (events.Truncated place) total f = omega (arith, f.4)
-IsUnspent-fronts at bytes now left due size (events.Bad place) total f = tt
-IsUnspent-fronts at bytes now left due size (events.TooLong place limit) total f = tt
-IsUnspent-fronts at bytes now left due size events.ReadFault total f = omega (arith, f.1)
-IsUnspent-fronts at bytes now left due size events.WriteFault total f = tt
-IsUnspent-fronts at bytes now left due size events.Spent total f = tt
-IsUnspent-fronts at bytes now left due size events.Mem total f = tt
+pub HasReadsLeft-fronts : (at : ℕ) (bytes : List ℕ) (now : Intake) (left : Option (List ℕ)) (due : Bool) (size : ℕ)
+    (result : Result Request Fault)
+    → now.total ≡ size → Fronts at bytes now left due result → HasReadsLeft size (event_of now result)
+HasReadsLeft-fronts at bytes now left due size (Ok r) total f = tt
+HasReadsLeft-fronts at bytes now left due size (Err faults.Ended) total f =
+    reads_left-ended (now.at == now.total) now.at size (omega (arith, f.0.2))
+HasReadsLeft-fronts at bytes now left due size (Err faults.ReadFault) total f = omega (arith, f.0.1)
+HasReadsLeft-fronts at bytes now left due size (Err faults.WriteFault) total f = tt
+HasReadsLeft-fronts at bytes now left due size (Err faults.Spent) total f = tt
+HasReadsLeft-fronts at bytes now left due size (Err faults.Mem) total f = tt
+HasReadsLeft-fronts at bytes now left due size (Err faults.Bad) total f = tt
+HasReadsLeft-fronts at bytes now left due size (Err (faults.TooLong limit)) total f = tt
+
+-- after a fault the reader isn't used again
+pub IsReady-after : (now : Intake) (result : Result Request Fault) → OnOk result (IsReady now)
+    → closes_after (event_of now result) ≡ false → IsReady now
+IsReady-after now (Ok r) ready stays = ready
+IsReady-after now (Err faults.Ended) ready stays = absurd (closes-ended (now.at == now.total) now.at stays)
+  where
+    closes-ended : (all_used : Bool) (at : ℕ)
+        → closes_after (if all_used then events.End else events.Truncated at) ≡ false → ⊥
+    closes-ended true at e = cc
+    closes-ended false at e = cc
+IsReady-after now (Err faults.ReadFault) ready stays = absurd (cc)
+IsReady-after now (Err faults.WriteFault) ready stays = absurd (cc)
+IsReady-after now (Err faults.Spent) ready stays = absurd (cc)
+IsReady-after now (Err faults.Mem) ready stays = absurd (cc)
+IsReady-after now (Err faults.Bad) ready stays = absurd (cc)
+IsReady-after now (Err (faults.TooLong limit)) ready stays = absurd (cc)
+
+-- the event is `ReadFault` for that fault alone
+pub event_of-ReadFault : (now : Intake) (result : Result Request Fault) → event_of now result ≡ events.ReadFault
+    → result ≡ Err faults.ReadFault
+event_of-ReadFault now (Ok r) is = absurd (cc)
+event_of-ReadFault now (Err faults.Ended) is = absurd (no_ReadFault (now.at == now.total) now.at is)
+  where
+    no_ReadFault : (all_used : Bool) (at : ℕ) → (if all_used then events.End else events.Truncated at) ≡ events.ReadFault → ⊥
+    no_ReadFault true at e = cc
+    no_ReadFault false at e = cc
+event_of-ReadFault now (Err faults.ReadFault) is = refl
+event_of-ReadFault now (Err faults.WriteFault) is = absurd (cc)
+event_of-ReadFault now (Err faults.Spent) is = absurd (cc)
+event_of-ReadFault now (Err faults.Mem) is = absurd (cc)
+event_of-ReadFault now (Err faults.Bad) is = absurd (cc)
+event_of-ReadFault now (Err (faults.TooLong limit)) is = absurd (cc)
+
+-- the event is `WriteFault` for that fault alone
+pub event_of-WriteFault : (now : Intake) (result : Result Request Fault) → event_of now result ≡ events.WriteFault
+    → result ≡ Err faults.WriteFault
+event_of-WriteFault now (Ok r) is = absurd (cc)
+event_of-WriteFault now (Err faults.Ended) is = absurd (no_WriteFault (now.at == now.total) now.at is)
+  where
+    no_WriteFault : (all_used : Bool) (at : ℕ) → (if all_used then events.End else events.Truncated at) ≡ events.WriteFault → ⊥
+    no_WriteFault true at e = cc
+    no_WriteFault false at e = cc
+event_of-WriteFault now (Err faults.ReadFault) is = absurd (cc)
+event_of-WriteFault now (Err faults.WriteFault) is = refl
+event_of-WriteFault now (Err faults.Spent) is = absurd (cc)
+event_of-WriteFault now (Err faults.Mem) is = absurd (cc)
+event_of-WriteFault now (Err faults.Bad) is = absurd (cc)
+event_of-WriteFault now (Err (faults.TooLong limit)) is = absurd (cc)
 
 -- ---- a call of the reader
-
--- bytes that don't begin with a blank one don't when more come
-pub no_blank-append : (bytes others : List ℕ) → 0 < length bytes → blank_length bytes ≡ 0
-    → blank_length (bytes ++ others) ≡ 0
-no_blank-append bytes others some none = blank_length-append bytes others (omega arith) ∙ none
 
 total_read : (before : Option (List ℕ)) (old : Intake) (mid : Option (List ℕ)) (now : Intake)
     (r : IsRead before old mid now)
@@ -198,349 +193,88 @@ total_read before old mid now r =
     omega (arith, length-drop r.skipped (old.buffer ++ r.got), blank_length-le (old.buffer ++ r.got))
 
 -- the bytes read are counted behind a head too
-total_behind : (before : Option (List ℕ)) (old : Intake) (mid : Option (List ℕ)) (lead : Intake)
-    (after : Option (List ℕ)) (now : Intake) (due : Bool) (event : Event)
-    (r : IsRead before old mid lead) (b : Behind mid lead after now due event)
+pub total_behind : (before : Option (List ℕ)) (old : Intake) (mid : Option (List ℕ)) (lead : Intake)
+    (after : Option (List ℕ)) (now : Intake) (due : Bool) (result : Result Request Fault)
+    (r : IsRead before old mid lead) (b : Behind mid lead after now due result)
     → now.total ≡ bytes_read (grown (point_of old false) (r.got ++ b.got))
-total_behind before old mid lead after now due event r b =
+total_behind before old mid lead after now due result r b =
     let first = total_read before old mid lead r in
     let counted = b.counted in
     omega (arith, length-append old.buffer r.got, length-append old.buffer (r.got ++ b.got), length-append r.got b.got)
 
-pub Nexts-behind : (before held : Option (List ℕ)) (old : Intake) (mid : Option (List ℕ)) (lead : Intake)
-    (after told : Option (List ℕ)) (now : Intake) (due : Bool) (event : Event)
-    → (r : IsRead before old mid lead) → (b : Behind mid lead after now due event)
+-- the blank bytes were passed, and what stands behind them was taken
+pub Turns-behind : (before held : Option (List ℕ)) (old : Intake) (mid : Option (List ℕ)) (lead : Intake)
+    (after told : Option (List ℕ)) (now : Intake) (due : Bool) (result : Result Request Fault)
+    → (r : IsRead before old mid lead) → (b : Behind mid lead after now due result)
     → blank_length (lead.buffer ++ b.got) ≡ 0 → Appends held told (interim due)
     → MayTell (grown (point_of old false) (r.got ++ b.got)) (interim due)
-    → Nexts before held (point_of old false) after told (point_of now (closes_after event)) event
-Nexts-behind before held old mid lead after told now due event r b none says may =
+    → Turns before held old after told now result
+Turns-behind before held old mid lead after told now due result r b none says may =
     let p = grown (point_of old false) (r.got ++ b.got) in
-    let total : now.total ≡ bytes_read p = total_behind before old mid lead after now due event r b in
+    let total : now.total ≡ bytes_read p = total_behind before old mid lead after now due result r b in
     record {
       got = r.got ++ b.got;
       consumed = Consumes-trans before mid after r.got b.got r.consumed b.consumed;
-      gives = Gives-fronts p lead.at (lead.buffer ++ b.got) now after held told due event
+      gives = GivesEvent-fronts p lead.at (lead.buffer ++ b.got) now after held told due result
           (Settled-read before old mid lead b.got r none) total b.spent says may b.fronts;
       within = subst (λ (n : ℕ). n ≤ max_read) total b.spent;
-      unspent = IsUnspent-fronts lead.at (lead.buffer ++ b.got) now after due (bytes_read p) event total b.fronts;
+      unspent = HasReadsLeft-fronts lead.at (lead.buffer ++ b.got) now after due (bytes_read p) result total b.fronts;
     }
 
 -- nothing more came
-abbrev pub Behind-now : (left : Option (List ℕ)) (lead now : Intake) (due : Bool) (event : Event)
+abbrev Behind-now : (left : Option (List ℕ)) (lead now : Intake) (due : Bool) (result : Result Request Fault)
     → now.total ≡ lead.total → lead.total ≤ max_read
-    → Fronts lead.at lead.buffer now left due event → Behind left lead left now due event
-Behind-now left lead now due event total spent fronts = record {
+    → Fronts lead.at lead.buffer now left due result → Behind left lead left now due result
+Behind-now left lead now due result total spent fronts = record {
   got = [];
   consumed = Consumes-nil left;
   counted = omega arith;
   spent = omega arith;
-  fronts = subst (λ (l : List ℕ). Fronts lead.at l now left due event) (sym (append-nil lead.buffer)) fronts;
+  fronts = subst (λ (l : List ℕ). Fronts lead.at l now left due result) (sym (append-nil lead.buffer)) fronts;
 }
 
--- what stands in the buffer is given
-pub Nexts-now : (before held : Option (List ℕ)) (old : Intake) (left : Option (List ℕ)) (now : Intake) (event : Event)
-    → IsRead before old left now → blank_length now.buffer ≡ 0 → Fronts now.at now.buffer now left false event
-    → Nexts before held (point_of old false) left held (point_of now (closes_after event)) event
+-- no request is at the front of the buffer, by a fault
+pub Turns-fault : (before held : Option (List ℕ)) (old : Intake) (left : Option (List ℕ)) (now : Intake)
+    (fault : Fault)
+    → IsRead before old left now → blank_length now.buffer ≡ 0
+    → LacksRequest now.at now.buffer false left now.total fault
+    → Turns before held old left held now (Err fault)
 unfolding interim
-Nexts-now before held old left now event r none fronts =
-    Nexts-behind before held old left now left held now false event r
-    (Behind-now left now now false event refl r.ready.spent fronts)
+Turns-fault before held old left now fault r none lacks_ =
+    Turns-behind before held old left now left held now false (Err fault) r
+    (Behind-now left now now false (Err fault) refl r.ready.spent (lacks_, refl))
     (ap blank_length (append-nil now.buffer) ∙ none) (Appends-nil held) (inl refl)
 
--- ---- behind a head
-
-and_false : (b : Bool) → (b && false) ≡ false
-and_false true = refl
-and_false false = refl
-
--- a body that is too long isn't waited for
-is_sent_over : (limit size : ℕ) → limit < size → is_sent limit (Sized size) ≡ false
-is_sent_over limit size over = rw (lt-leb size limit over) (and_false (nat_lt 0 size))
-
-not_le : (limit size : ℕ) → (size ≤ limit → ⊥) → limit < size
-not_le limit size over = ⊎_elim (λ (less : limit < size). less) (λ (most : size ≤ limit). absurd (over most))
-    (cases_lt limit size)
-
-waits_over : (head : Head) (size : ℕ) → framing_of head ≡ Some (Sized size) → max_body head.target < size
-    → waits head ≡ false
-unfolding waits
-waits_over head size framed over =
-    let sent : option_map_or (is_sent (max_body head.target)) (framing_of head) false ≡ false =
-    rw framed (is_sent_over (max_body head.target) size over) in
-    rw sent (and_false (head.minor == 1 && first_says (codes "expect") (codes "100-continue") head.fields))
-
-long_front : (at : ℕ) (bytes : List ℕ) (count : ℕ) (head : Head) (framing : Framing) → IsEnd max_head bytes count
-    → Parses (take count bytes) (Some head) → framing_of head ≡ Some framing
-    → (FitsLimit framing (max_body head.target) → ⊥)
-    → IsFront at bytes (short false (too_long (max_body head.target)))
-long_front at bytes count head (Sized size) ends parses framed over =
-    let beyond : max_body head.target < size = not_le (max_body head.target) size over in
-    subst (λ (due : Bool). IsFront at bytes (short due (too_long (max_body head.target))))
-    (waits_over head size framed beyond)
-    (IsFront-body at bytes count head (Sized size) (lacks (too_long (max_body head.target))) ends parses framed
-    (IsBody-sized_long (max_body head.target) size (drop count bytes) beyond))
-long_front at bytes count head Chunked ends parses framed over = absurd (over tt)
-
--- a head whose body is delimited badly, or is too long
-pub Nexts-unframed : (before held : Option (List ℕ)) (old : Intake) (left : Option (List ℕ)) (now : Intake)
-    (count : ℕ) (head : Head) (at : ℕ)
-    → Leads before old left now (leads.Head head count) → framing_of head ≡ None → at ≡ now.at
-    → Nexts before held (point_of old false) left held (point_of now true) (events.Bad at)
-Nexts-unframed before held old left now count head at l none place =
-    Nexts-now before held old left now (events.Bad at) l.read l.none
-    (place, IsFront-unframed now.at now.buffer count head l.shows.0 l.shows.1 none)
-
-pub Nexts-long : (before held : Option (List ℕ)) (old : Intake) (left : Option (List ℕ)) (now : Intake) (count : ℕ)
-    (head : Head) (framing : Framing) (at limit : ℕ)
-    → Leads before old left now (leads.Head head count) → framing_of head ≡ Some framing
-    → (FitsLimit framing limit → ⊥)
-    → limit ≡ max_body head.target → at ≡ now.at
-    → Nexts before held (point_of old false) left held (point_of now true) (events.TooLong at limit)
-Nexts-long before held old left now count head framing at limit l framed over is place =
-    Nexts-now before held old left now (events.TooLong at limit) l.read l.none (
-      place,
-      subst (λ (n : ℕ). IsFront now.at now.buffer (short false (too_long n))) (sym is)
-          (long_front now.at now.buffer count head framing l.shows.0 l.shows.1 framed
-          (λ fits. over (subst (λ (n : ℕ). FitsLimit framing n) (sym is) fits))),
-    )
-
 -- the 100 wasn't written whole
-pub Nexts-untold : (before held told : Option (List ℕ)) (old : Intake) (left : Option (List ℕ)) (now : Intake)
+pub Turns-untold : (before held told : Option (List ℕ)) (old : Intake) (left : Option (List ℕ)) (now : Intake)
     (count : ℕ) (head : Head)
-    → Leads before old left now (leads.Head head count) → waits head ≡ true
+    → IsRead before old left now → blank_length now.buffer ≡ 0
+    → IsEnd max_head now.buffer count → Parses (take count now.buffer) (Some head) → waits head ≡ true
     → Sends held told (interim (waits head)) WriteFault
-    → Nexts before held (point_of old false) left told (point_of now true) events.WriteFault
+    → Turns before held old left told now (Err faults.WriteFault)
 unfolding interim
-Nexts-untold before held told old left now count head l waiting sends =
-    let none : blank_length (now.buffer ++ []) ≡ 0 = ap blank_length (append-nil now.buffer) ∙ l.none in
-    let s : Settled (grown (point_of old false) (l.read.got ++ [])) now.at (now.buffer ++ []) =
-    Settled-read before old left now [] l.read none in
+Turns-untold before held told old left now count head r no_blank ends parses waiting sends =
+    let none : blank_length (now.buffer ++ []) ≡ 0 = ap blank_length (append-nil now.buffer) ∙ no_blank in
+    let s : Settled (grown (point_of old false) (r.got ++ [])) now.at (now.buffer ++ []) =
+    Settled-read before old left now [] r none in
     let bytes : now.buffer ≡ now.buffer ++ [] = sym (append-nil now.buffer) in
-    let awaits : AwaitsBody (grown (point_of old false) (l.read.got ++ [])) =
-    AwaitsBody-head (grown (point_of old false) (l.read.got ++ [])) now.at (now.buffer ++ []) count head s
-    (subst (λ (b : List ℕ). IsEnd max_head b count) bytes l.shows.0)
-    (subst (λ (b : List ℕ). Parses (take count b) (Some head)) bytes l.shows.1) waiting in
+    let awaits : AwaitsBody (grown (point_of old false) (r.got ++ [])) =
+    AwaitsBody-head (grown (point_of old false) (r.got ++ [])) now.at (now.buffer ++ []) count head s
+    (subst (λ (b : List ℕ). IsEnd max_head b count) bytes ends)
+    (subst (λ (b : List ℕ). Parses (take count b) (Some head)) bytes parses) waiting in
     record {
-      got = l.read.got ++ [];
-      consumed = Consumes-trans before left left l.read.got [] l.read.consumed (Consumes-nil left);
+      got = r.got ++ [];
+      consumed = Consumes-trans before left left r.got [] r.consumed (Consumes-nil left);
       gives = (awaits, subst (λ (due : Bool). Sends held told (interim due) WriteFault) waiting sends);
       within =
-          let total = total_read before old left now l.read in
-          let spent = l.read.ready.spent in
+          let total = total_read before old left now r in
+          let spent = r.ready.spent in
           omega (
             arith,
-            length-append old.buffer l.read.got,
+            length-append old.buffer r.got,
             length-append old.buffer
-                (l.read.got ++ []),
-            length-append l.read.got [],
+                (r.got ++ []),
+            length-append r.got [],
           );
       unspent = tt;
     }
-
--- the request behind a head was read, or what stands in its place
-pub Nexts-head : (before held told : Option (List ℕ)) (old : Intake) (mid : Option (List ℕ)) (lead : Intake)
-    (after : Option (List ℕ)) (now : Intake) (count : ℕ) (head : Head) (event : Event)
-    → Leads before old mid lead (leads.Head head count) → Behind mid lead after now (waits head) event
-    → Appends held told (interim (waits head))
-    → Nexts before held (point_of old false) after told (point_of now (closes_after event)) event
-Nexts-head before held told old mid lead after now count head event l b says =
-    let within : count ≤ length lead.buffer = l.shows.0.within in
-    let some : 0 < count = IsEnd-positive max_head lead.buffer count l.shows.0 in
-    let none : blank_length (lead.buffer ++ b.got) ≡ 0 = no_blank-append lead.buffer b.got (omega arith) l.none in
-    let p = grown (point_of old false) (l.read.got ++ b.got) in
-    let s : Settled p lead.at (lead.buffer ++ b.got) = Settled-read before old mid lead b.got l.read none in
-    Nexts-behind before held old mid lead after told now (waits head) event l.read b none says
-    (MayTell-due p (waits head) (λ waiting.
-    AwaitsBody-head p lead.at (lead.buffer ++ b.got) count head s
-    (IsEnd-append max_head lead.buffer b.got count l.shows.0)
-    (Parses-append lead.buffer b.got count (Some head) within l.shows.1) waiting))
-
-abbrev pub finished : ℕ → ℕ → Intake → Intake
-finished count size now = record now { at = now.at + (count + size); scanned = 0 }
-
--- what stands at the front, by what stands behind the head
-front_of_body : (lead : Intake) (count : ℕ) (head : Head) (framing : Framing) (limit : ℕ) (got : List ℕ)
-    (body : BodyFront)
-    → HasHead lead.buffer count head framing limit → IsBody limit (drop count lead.buffer ++ got) framing body
-    → IsFront lead.at (lead.buffer ++ got) (with_body lead.at count head body)
-front_of_body lead count head framing limit got body h stands =
-    let within : count ≤ length lead.buffer = h.ends.within in
-    let behind : drop count (lead.buffer ++ got) ≡ drop count lead.buffer ++ got =
-    drop-append-le count lead.buffer got within in
-    IsFront-body lead.at (lead.buffer ++ got) count head framing body
-    (IsEnd-append max_head lead.buffer got count h.ends)
-    (Parses-append lead.buffer got count (Some head) within h.parses) h.framed
-    (rw behind (subst (λ (l : ℕ). IsBody l (drop count lead.buffer ++ got) framing body) h.limit_is stands))
-
--- a body is no longer than what was read
-pub taken-small : (left : Option (List ℕ)) (lead : Intake) (after : Option (List ℕ)) (now : Intake) (count : ℕ)
-    (framing : Framing) (limit : ℕ)
-    (rest : List ℕ) (body : Vec ℕ Global) (size : ℕ) → rest ≡ drop count lead.buffer → IsReady lead
-    → Bodies limit framing left (rest_of rest lead) after now (takens.Body body size) → (size ≤ max_read)
-    × (now.at ≡ lead.at) × (lead.at ≤ max_read)
-taken-small left lead after now count framing limit rest body size is ready b =
-    let within : size ≤ length (rest ++ b.come.got) =
-    IsBody-length limit (rest ++ b.come.got) framing body.items size b.shows.0 in
-    let counted = b.come.counted in
-    let spent = b.come.spent in
-    let placed = ready.placed in
-    let few : length rest ≡ length (drop count lead.buffer) = ap length is in (
-      omega (arith, length-append rest b.come.got, length-drop count lead.buffer),
-      ap (λ (x : Intake). x.at) b.come.kept,
-      omega arith,
-    )
-
-pub Behind-body : (left : Option (List ℕ)) (lead : Intake) (after : Option (List ℕ)) (now : Intake) (count : ℕ)
-    (head : Head) (framing : Framing) (limit : ℕ)
-    (rest : List ℕ) (body : Vec ℕ Global) (size : ℕ) (r : Request) → rest ≡ drop count lead.buffer → IsReady lead
-    → HasHead lead.buffer count head framing limit
-    → Bodies limit framing left (rest_of rest lead) after now (takens.Body body size)
-    → r ≡ request_of now.at head body.items
-    → Behind left lead after (finished count size now) (waits head) (events.Request r)
-Behind-body left lead after now count head framing limit rest body size r is ready h b made =
-    let got = b.come.got in
-    let bytes = lead.buffer ++ got in
-    let within : count ≤ length lead.buffer = h.ends.within in
-    let stands : IsBody limit (drop count lead.buffer ++ got) framing (complete body.items size) =
-    subst (λ (l : List ℕ). IsBody limit (l ++ got) framing (complete body.items size)) is b.shows.0 in
-    let front : IsFront lead.at bytes (whole (request_of lead.at head body.items) (count + size)) =
-    front_of_body lead count head framing limit got (complete body.items size) h stands in
-    let long = IsFront-whole_length lead.at bytes (request_of lead.at head body.items) (count + size) front in
-    let at : now.at ≡ lead.at = ap (λ (x : Intake). x.at) b.come.kept in
-    let same : request_of lead.at head body.items ≡ r =
-    ap (λ (k : ℕ). request_of k head body.items) (sym at) ∙ sym made in
-    let behind : drop count bytes ≡ rest ++ got =
-    drop-append-le count lead.buffer got within ∙ ap (λ (l : List ℕ). l ++ got) (sym is) in
-    let buffered : now.buffer ≡ drop (count + size) bytes =
-    b.shows.1 ∙ ap (drop size) (sym behind) ∙ drop-drop count size bytes in
-    let counted = b.come.counted in
-    let placed = ready.placed in
-    let left_over : length now.buffer ≡ length (drop (count + size) bytes) = ap length buffered in
-    record {
-      got = got;
-      consumed = b.come.consumed;
-      counted = counted;
-      spent = b.come.spent;
-      fronts = (
-        count + size,
-        subst (λ (q : Request). IsFront lead.at bytes (whole q (count + size))) same front,
-        omega arith,
-        buffered,
-        record {
-          placed = omega (arith, length-drop (count + size) bytes, length-append lead.buffer got, long.1);
-          spent = b.come.spent;
-          within = omega arith;
-          known = HasNoEnd-zero now.buffer;
-        },
-        ap is_waiting (sym same),
-      );
-    }
-
--- no body stands behind the head, or more than its limit allows
-lack_front : (lead : Intake) (count : ℕ) (head : Head) (framing : Framing) (limit : ℕ) (got rest : List ℕ)
-    (lack : Lack)
-    → rest ≡ drop count lead.buffer → HasHead lead.buffer count head framing limit
-    → IsBody limit (rest ++ got) framing (lacks lack) → IsFront lead.at (lead.buffer ++ got) (short (waits head) lack)
-lack_front lead count head framing limit got rest lack is h stands =
-    front_of_body lead count head framing limit got (lacks lack) h
-    (subst (λ (l : List ℕ). IsBody limit (l ++ got) framing (lacks lack)) is stands)
-
-pub Behind-bad : (left : Option (List ℕ)) (lead : Intake) (after : Option (List ℕ)) (now : Intake) (count : ℕ)
-    (head : Head) (framing : Framing) (limit : ℕ)
-    (rest : List ℕ) → rest ≡ drop count lead.buffer → HasHead lead.buffer count head framing limit
-    → Bodies limit framing left (rest_of rest lead) after now takens.Bad
-    → Behind left lead after now (waits head) (events.Bad now.at)
-Behind-bad left lead after now count head framing limit rest is h b = record {
-  got = b.come.got;
-  consumed = b.come.consumed;
-  counted = b.come.counted;
-  spent = b.come.spent;
-  fronts = (ap (λ (x : Intake). x.at) b.come.kept, lack_front lead count head framing limit b.come.got rest bad is h b.shows);
-}
-
-pub Behind-long : (left : Option (List ℕ)) (lead : Intake) (after : Option (List ℕ)) (now : Intake) (count : ℕ)
-    (head : Head) (framing : Framing) (limit : ℕ)
-    (rest : List ℕ) (most : ℕ) → rest ≡ drop count lead.buffer → HasHead lead.buffer count head framing limit
-    → Bodies limit framing left (rest_of rest lead) after now (takens.Long most)
-    → Behind left lead after now (waits head) (events.TooLong now.at most)
-Behind-long left lead after now count head framing limit rest most is h b = record {
-  got = b.come.got;
-  consumed = b.come.consumed;
-  counted = b.come.counted;
-  spent = b.come.spent;
-  fronts = (
-    ap (λ (x : Intake). x.at) b.come.kept,
-    lack_front lead count head framing limit b.come.got rest
-        (too_long most) is h b.shows,
-  );
-}
-
--- what is given where no more bytes come for a body
-abbrev pub event_of : ℕ → Stop → Event
-event_of at stops.Ended = events.Truncated at
-event_of at stops.Failed = events.ReadFault
-event_of at stops.Spent = events.Spent
-event_of at stops.Mem = events.Mem
-
-stopped_fronts : (at : ℕ) (lead : Intake) (after : Option (List ℕ)) (now : Intake) (count : ℕ) (head : Head)
-    (framing : Framing) (limit : ℕ) (got : List ℕ) (stop : Stop)
-    → HasHead lead.buffer count head framing limit → at ≡ lead.at
-    → IsPartial stop limit (drop count lead.buffer ++ got) framing → IsStop stop after now.total
-    → Fronts lead.at (lead.buffer ++ got) now after (waits head) (event_of at stop)
-stopped_fronts at lead after now count head framing limit got stops.Ended h same partial is =
-    let within : count ≤ length lead.buffer = h.ends.within in
-    let some : 0 < count = IsEnd-positive max_head lead.buffer count h.ends in (
-      same,
-      front_of_body lead count head framing limit got (lacks open_) h partial,
-      omega
-          (arith, length-append lead.buffer got),
-      is.0,
-      is.1,
-    )
-stopped_fronts at lead after now count head framing limit got stops.Failed h same partial is =
-    (front_of_body lead count head framing limit got (lacks open_) h partial, is)
-stopped_fronts at lead after now count head framing limit got stops.Spent h same partial is =
-    (front_of_body lead count head framing limit got (lacks open_) h partial, is)
-stopped_fronts at lead after now count head framing limit got stops.Mem h same partial is = tt
-
-pub Behind-stopped : (left : Option (List ℕ)) (lead : Intake) (after : Option (List ℕ)) (now : Intake) (count : ℕ)
-    (head : Head) (framing : Framing) (limit : ℕ)
-    (rest : List ℕ) (stop : Stop) → rest ≡ drop count lead.buffer → HasHead lead.buffer count head framing limit
-    → Bodies limit framing left (rest_of rest lead) after now (takens.Stopped stop)
-    → Behind left lead after now (waits head) (event_of now.at stop)
-Behind-stopped left lead after now count head framing limit rest stop is h b = record {
-  got = b.come.got;
-  consumed = b.come.consumed;
-  counted = b.come.counted;
-  spent = b.come.spent;
-  fronts = stopped_fronts now.at lead after now count head framing limit b.come.got stop h
-      (ap (λ (x : Intake). x.at) b.come.kept)
-      (subst (λ (l : List ℕ). IsPartial stop limit (l ++ b.come.got) framing) is b.shows.0) b.shows.1;
-}
-
--- the bytes in the buffer aren't the head of a request
-pub Nexts-bad : (before held : Option (List ℕ)) (old : Intake) (left : Option (List ℕ)) (now : Intake) (at : ℕ)
-    → Leads before old left now leads.Bad → at ≡ now.at
-    → Nexts before held (point_of old false) left held (point_of now true) (events.Bad at)
-Nexts-bad before held old left now at l place =
-    Nexts-now before held old left now (events.Bad at) l.read l.none
-    (place, IsFront-no_grammar now.at now.buffer l.shows.0 l.shows.1 l.shows.2)
-
-pub Nexts-long_head : (before held : Option (List ℕ)) (old : Intake) (left : Option (List ℕ)) (now : Intake)
-    (at limit : ℕ)
-    → Leads before old left now leads.Long → limit ≡ max_head → at ≡ now.at
-    → Nexts before held (point_of old false) left held (point_of now true) (events.TooLong at limit)
-Nexts-long_head before held old left now at limit l is place =
-    Nexts-now before held old left now (events.TooLong at limit) l.read l.none (
-      place,
-      subst (λ (n : ℕ). IsFront now.at now.buffer (short false (too_long n))) (sym is)
-          (IsFront-long now.at now.buffer l.shows.0 l.shows.1),
-    )
-
-pub Nexts-stopped : (before held : Option (List ℕ)) (old : Intake) (left : Option (List ℕ)) (now : Intake)
-    (stop : Stop) (event : Event)
-    → Leads before old left now (leads.Stopped stop)
-    → (IsStop stop left now.total → Fronts now.at now.buffer now left false event)
-    → Nexts before held (point_of old false) left held (point_of now (closes_after event)) event
-Nexts-stopped before held old left now stop event l fronts =
-    Nexts-now before held old left now event l.read l.none (fronts l.shows.1)

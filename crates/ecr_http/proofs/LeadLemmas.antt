@@ -1,19 +1,22 @@
 -- How a head is read: blank bytes are passed, and more bytes come.
-use Rattle.std.proofs.Common.{◌≡◌, ℕ, zero, suc, ◌+◌, ◌<◌, ◌≤◌, true, false, cond, List, [], ◌∷◌, ◌++◌, length, drop, get_or, Option, refl, sym, ap, ◌∙◌, subst, arith, length-append, length-drop, append-nil, append_assoc}
+use Rattle.std.proofs.Common.{◌≡◌, ℕ, zero, suc, ◌+◌, ◌<◌, ◌≤◌, true, false, cond, List, [], ◌∷◌, ◌++◌, length, drop, get_or, Option, Result, Ok, Err, refl, sym, ap, ◌∙◌, subst, arith, length-append, length-drop, append-nil, append_assoc}
 use Rattle.std.proofs.lemmas.List.{at_drop_more, drop-append-le}
 use Rattle.std.proofs.Math.Seq.{drop-nil}
 use Rattle.std.proofs.KnownBytes.{Consumes-nil, Consumes-trans, Consumes-kept}
+use Rattle.std.specs.Prelude.{⊤}
 use Rattle.std.specs.Io.KnownBytes.{Consumes, Keeps}
-use Rattle.ecr_model.specs.http.Framing.{ends_empty, HasNoEnd}
+use Rattle.ecr_model.specs.http.Framing.{max_head, ends_empty, HasNoEnd}
 use Rattle.ecr_model.specs.sessions.Sessions.{max_read}
-use Rattle.ecr_model.specs.http.Stream.{is_blank, blank_length}
+use Rattle.ecr_model.specs.http.Stream.{is_blank, blank_length, short, IsFront}
 use Rattle.ecr_model.proofs.lemmas.http.FramingLemmas.{HasNoEnd-append}
+use Rattle.ecr_model.proofs.lemmas.http.FrontLemmas.{IsFront-no_head}
 use Rattle.ecr_model.proofs.lemmas.http.StreamLemmas.{blank_length-le, blank_length-drop}
-use Rattle.ecr_http.specs.Leads.{IsReady, IsRead, IsShort, IsOpen, passed}
-use Rattle.ecr_http.specs.Takings.{lengthened, Gains}
+use Rattle.ecr_http.specs.Leads.{IsReady, IsRead, LacksRequest, LooksOn, past_front}
+use Rattle.ecr_http.specs.Faults.{IsFault, IsOpen}
+use Rattle.ecr_http.specs.Takings.{lengthened, Gains, ReadsOnce}
 use Rattle.ecr_http.specs.declared.intake.Intake.{Intake}
-use Rattle.ecr_http.specs.declared.intake.Stop.{Stop}
-use Rattle.ecr_http.specs.declared.intake.Stop.TheVariants as stops
+use Rattle.ecr_http.specs.declared.fault.Fault.{Fault}
+use Rattle.ecr_http.proofs.FaultLemmas.{IsFault-open}
 
 -- ---- blank bytes
 
@@ -53,6 +56,7 @@ HasNoEnd-zero bytes k h =
     let none : k ≡ 0 = omega arith in
     subst (λ n. ends_empty bytes n ≡ false) (sym none) refl
 
+-- nothing was read yet
 pub IsReady-fresh : (intake : Intake) → intake.buffer ≡ [] → intake.at ≡ 0 → intake.total ≡ 0 → intake.scanned ≡ 0
     → IsReady intake
 IsReady-fresh intake buffer at total scanned = record {
@@ -62,9 +66,10 @@ IsReady-fresh intake buffer at total scanned = record {
   known = subst (HasNoEnd intake.buffer) (sym scanned) (HasNoEnd-zero intake.buffer);
 }
 
-pub IsReady-passed : (intake : Intake) (count : ℕ) → count ≤ length intake.buffer → IsReady intake
-    → IsReady (passed count intake)
-IsReady-passed intake count h ready = record {
+-- some bytes were dropped
+pub IsReady-past : (intake : Intake) (count : ℕ) → count ≤ length intake.buffer → IsReady intake
+    → IsReady (past_front count intake)
+IsReady-past intake count h ready = record {
   placed = let placed = ready.placed in omega (arith, length-drop count intake.buffer);
   spent = ready.spent;
   within = omega arith;
@@ -99,6 +104,7 @@ IsReady-lengthened intake piece ready fits =
 
 -- ---- how far the reading has come
 
+-- the reading begins
 pub IsRead-start : (before : Option (List ℕ)) (now : Intake) → IsReady now → IsRead before now before now
 IsRead-start before now ready = record {
   got = [];
@@ -110,6 +116,7 @@ IsRead-start before now ready = record {
   ready = ready;
 }
 
+-- what is dropped one after the other is dropped at once
 pub drop-drop : (i j : ℕ) (l : List ℕ) → drop j (drop i l) ≡ drop (i + j) l
 drop-drop zero j l = ap (λ k. drop k l) (omega arith)
 drop-drop (suc i) j [] = drop-nil j ∙ sym (drop-nil (suc i + j))
@@ -118,10 +125,10 @@ drop-drop (suc i) j (x ∷ l) =
     drop-drop i j l ∙ ap (λ k. drop k (x ∷ l)) e
 
 -- the blank bytes are dropped
-pub IsRead-passed_blank : (before : Option (List ℕ)) (old : Intake) (after : Option (List ℕ)) (now : Intake)
+pub IsRead-past_blank : (before : Option (List ℕ)) (old : Intake) (after : Option (List ℕ)) (now : Intake)
     → IsRead before old after now
-    → IsRead before old after (passed (blank_length now.buffer) now)
-IsRead-passed_blank before old after now r =
+    → IsRead before old after (past_front (blank_length now.buffer) now)
+IsRead-past_blank before old after now r =
     let all = blank_length-drop (old.buffer ++ r.got) r.skipped r.blank in
     let same = ap blank_length r.buffered in
     record {
@@ -132,9 +139,10 @@ IsRead-passed_blank before old after now r =
       buffered = ap (drop (blank_length now.buffer)) r.buffered
           ∙ drop-drop r.skipped (blank_length now.buffer) (old.buffer ++ r.got);
       placed = let placed = r.placed in omega arith;
-      ready = IsReady-passed now (blank_length now.buffer) (blank_length-le now.buffer) r.ready;
+      ready = IsReady-past now (blank_length now.buffer) (blank_length-le now.buffer) r.ready;
     }
 
+-- no head ends in the first n bytes
 pub IsRead-looked : (before : Option (List ℕ)) (old : Intake) (after : Option (List ℕ)) (now : Intake) (n : ℕ)
     → IsRead before old after now
     → n ≤ length now.buffer → HasNoEnd now.buffer n → IsRead before old after (looked n now)
@@ -190,9 +198,24 @@ IsRead-kept before old mid after now last r same kept = subst (IsRead before old
   ready = r.ready;
 })
 
--- less than a head is there, whatever stops the reading
-pub IsOpen-from_short : (stop : Stop) (bytes : List ℕ) → IsShort bytes → IsOpen stop bytes
-IsOpen-from_short stops.Ended bytes few = few
-IsOpen-from_short stops.Failed bytes few = few
-IsOpen-from_short stops.Spent bytes few = few
-IsOpen-from_short stops.Mem bytes few = tt
+-- less than a head is there, and no more bytes come
+pub LacksRequest-short : (now : Intake) (left : Option (List ℕ)) (fault : Fault) → HasNoEnd now.buffer (length now.buffer)
+    → length now.buffer < max_head → IsFault IsOpen left now.total fault
+    → LacksRequest now.at now.buffer false left now.total fault
+LacksRequest-short now left fault none_ends small is =
+    IsFault-open (λ lack. IsFront now.at now.buffer (short false lack)) left now.total fault
+    (IsFront-no_head now.at now.buffer none_ends small) is
+
+-- one read, where less than a head is there
+pub LooksOn-reads : (before : Option (List ℕ)) (old : Intake) (mid after : Option (List ℕ)) (now last : Intake)
+    (result : Result ⊤ Fault)
+    → IsRead before old mid now → blank_length now.buffer ≡ 0 → HasNoEnd now.buffer (length now.buffer)
+    → length now.buffer < max_head → ReadsOnce mid now after last result → LooksOn before old after last result
+LooksOn-reads before old mid after now last (Ok done) r blank none_ends small reads =
+    IsRead-gains before old mid after now last r reads
+LooksOn-reads before old mid after now last (Err fault) r blank none_ends small reads = record {
+  read = IsRead-kept before old mid after now last r reads.0 reads.1;
+  none = ap (λ (x : Intake). blank_length x.buffer) reads.0 ∙ blank;
+  stands = subst (λ (x : Intake). LacksRequest x.at x.buffer false after x.total fault) (sym reads.0)
+      (LacksRequest-short now after fault none_ends small reads.2);
+}

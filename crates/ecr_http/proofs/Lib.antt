@@ -3,8 +3,11 @@ pub mod HeadLemmas
 pub mod DigitsLemmas
 pub mod SendLemmas
 pub mod ReplyLemmas
+pub mod FaultLemmas
 pub mod LeadLemmas
 pub mod BodyLemmas
 pub mod BufferLemmas
 pub mod DecodingLemmas
+pub mod SettledLemmas
 pub mod EventLemmas
+pub mod BehindLemmas

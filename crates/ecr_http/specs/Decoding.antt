@@ -1,24 +1,22 @@
 -- How far a chunked body was decoded, and what was found (RFC 9112, section 7.1). Places and sizes are in bytes.
-use Rattle.std.specs.Prelude.{◌≡◌, ℕ, suc, ◌+◌, ◌*◌, ◌<◌, ◌≤◌, List, ◌++◌, length, take, drop, Option, Some, ⊤}
+use Rattle.std.specs.Prelude.{◌≡◌, ℕ, suc, ◌+◌, ◌*◌, ◌<◌, ◌≤◌, Bool, true, false, List, ◌++◌, length, take, drop, Option, Some, None, Result, Ok, Err, ⊤}
 use Rattle.ecr_model.specs.declared.http.Framing.TheVariants.{Chunked}
 use Rattle.ecr_model.specs.http.Framing.{HasNoEnd}
-use Rattle.ecr_model.specs.http.Fronts.{bad, too_long, open_, complete, lacks}
+use Rattle.ecr_model.specs.http.Fronts.{bad, open_, complete, lacks}
 use Rattle.ecr_model.specs.http.Chunks.{line_end, Says, Part, lacking, if_crlf, Progress, begun, Chunks, IsChunked}
-use Rattle.ecr_http.specs.Takings.{IsStop, left_to_read}
-use Rattle.ecr_http.specs.Bodies.{IsGot, IsPartial}
+use Rattle.ecr_http.specs.Takings.{left_to_read}
+use Rattle.ecr_http.specs.Bodies.{IsGot, LacksBody}
 use Rattle.ecr_http.specs.declared.intake.Intake.{Intake}
-use Rattle.ecr_http.specs.declared.chunk_line.Closing.{Closing}
-use Rattle.ecr_http.specs.declared.chunk_line.Closing.TheVariants as closings
+use Rattle.ecr_http.specs.declared.fault.Fault.{Fault}
+use Rattle.ecr_http.specs.declared.fault.Fault.TheVariants as faults
 use Rattle.ecr_http.specs.declared.chunks.Stage.{Stage}
 use Rattle.ecr_http.specs.declared.chunks.Stage.TheVariants as stages
-use Rattle.ecr_http.specs.declared.chunks.Next.{Next}
-use Rattle.ecr_http.specs.declared.chunks.Next.TheVariants as nexts
 
--- a part of a body by the bytes that stand where CR LF is due
-abbrev pub IsClosed : List ℕ → Closing → Type 0
-IsClosed bytes closings.Crlf = (2 ≤ length bytes) × ((part : Part) → if_crlf part bytes ≡ part)
-IsClosed bytes closings.Less = (part : Part) → if_crlf part bytes ≡ lacking open_
-IsClosed bytes closings.Other = (part : Part) → if_crlf part bytes ≡ lacking bad
+-- a part of a body by the bytes that stand where CR LF is due: CR LF, or less, or another byte
+abbrev pub IsClosed : List ℕ → Result Bool Fault → Type 0
+IsClosed bytes (Ok true) = (2 ≤ length bytes) × ((part : Part) → if_crlf part bytes ≡ part)
+IsClosed bytes (Ok false) = (part : Part) → if_crlf part bytes ≡ lacking open_
+IsClosed bytes (Err fault) = (fault ≡ faults.Bad) × ((part : Part) → if_crlf part bytes ≡ lacking bad)
 
 -- a chunk's line comes next, with its LF at that place and that chunk-size
 pub record HasLine (p : Progress) (place size : ℕ) : Type 0 where
@@ -68,30 +66,21 @@ pub record Awaits (limit : ℕ) (before : Option (List ℕ)) (old : Intake) (aft
   pub decodes : Decodes limit before old after now body stage
   pub less : IsChunked limit (old.buffer ++ decodes.come.got) (lacks open_)
 
--- the front of the bytes, where the decoding ends
-abbrev pub Finds : ℕ → List ℕ → Option (List ℕ) → Intake → List ℕ → Next → Type 0
-Finds limit bytes left now body (nexts.Go stage) = ⊥
-Finds limit bytes left now body nexts.Whole =
-    (n : ℕ) × (n + length now.buffer ≡ length bytes) × IsChunked limit bytes (complete body n)
-    × (now.buffer ≡ drop n bytes)
-Finds limit bytes left now body nexts.Bad = IsChunked limit bytes (lacks bad)
-Finds limit bytes left now body (nexts.Long most) = IsChunked limit bytes (lacks (too_long most))
-Finds limit bytes left now body (nexts.Stopped stop) = IsPartial stop limit bytes Chunked × IsStop stop left now.total
-
--- the decoding has ended
+-- the whole of a chunked body stood at the front, and the buffer has what follows it
 pub record Decoded (limit : ℕ) (before : Option (List ℕ)) (old : Intake) (after : Option (List ℕ)) (now : Intake)
-    (body : List ℕ) (next : Next) : Type 0 where
+    (body : List ℕ) : Type 0 where
   pub come : IsGot before old after now
-  pub finds : Finds limit (old.buffer ++ come.got) after now body next
+  pub size : ℕ
+  pub counted : size + length now.buffer ≡ length (old.buffer ++ come.got)
+  pub whole : IsChunked limit (old.buffer ++ come.got) (complete body size)
+  pub rest : now.buffer ≡ drop size (old.buffer ++ come.got)
 
--- the decoding goes on, or has ended
-abbrev pub DecodesOn : ℕ → Option (List ℕ) → Intake → Option (List ℕ) → Intake → List ℕ → Next → Type 0
-DecodesOn limit before old after now body (nexts.Go stage) = Decodes limit before old after now body stage
-DecodesOn limit before old after now body nexts.Whole = Decoded limit before old after now body nexts.Whole
-DecodesOn limit before old after now body nexts.Bad = Decoded limit before old after now body nexts.Bad
-DecodesOn limit before old after now body (nexts.Long most) = Decoded limit before old after now body (nexts.Long most)
-DecodesOn limit before old after now body (nexts.Stopped stop) =
-    Decoded limit before old after now body (nexts.Stopped stop)
+-- the decoding goes on, or the body is whole, or there is a fault in its place
+abbrev pub DecodesOn : ℕ → Option (List ℕ) → Intake → Option (List ℕ) → Intake → List ℕ → Result (Option Stage) Fault
+    → Type 0
+DecodesOn limit before old after now body (Ok (Some stage)) = Decodes limit before old after now body stage
+DecodesOn limit before old after now body (Ok None) = Decoded limit before old after now body
+DecodesOn limit before old after now body (Err fault) = LacksBody limit Chunked before old after now fault
 
 -- the buffer at that stage
 abbrev pub IsScanned : List ℕ → Stage → Type 0
@@ -110,9 +99,7 @@ unfoldable pub left_to_do : Stage → Intake → ℕ
 left_to_do stage intake = 2 * left_to_read intake + length intake.buffer + rank stage
 
 -- where it goes on, less is left to do
-abbrev pub IsNearer : Next → Intake → ℕ → Type 0
-IsNearer (nexts.Go stage) now before = left_to_do stage now < before
-IsNearer nexts.Whole now before = ⊤
-IsNearer nexts.Bad now before = ⊤
-IsNearer (nexts.Long most) now before = ⊤
-IsNearer (nexts.Stopped stop) now before = ⊤
+abbrev pub IsNearer : Result (Option Stage) Fault → Intake → ℕ → Type 0
+IsNearer (Ok (Some stage)) now before = left_to_do stage now < before
+IsNearer (Ok None) now before = ⊤
+IsNearer (Err fault) now before = ⊤

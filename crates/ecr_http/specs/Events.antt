@@ -1,13 +1,17 @@
 -- What is given at the front of the bytes that come. Places and sizes are in bytes.
-use Rattle.std.specs.Prelude.{◌≡◌, ℕ, ◌+◌, ◌<◌, ◌≤◌, Bool, true, false, List, [], ◌++◌, length, take, drop, Option, Some, ⊤}
-use Rattle.std.specs.Io.KnownBytes.{Consumes, IsAtEnd}
+use Rattle.std.specs.Prelude.{◌≡◌, ℕ, ◌+◌, ◌≤◌, ◌==◌, Bool, true, false, if◌then◌else◌, List, ◌++◌, length, take, drop, Option, Some, Result, Ok, Err}
+use Rattle.std.specs.Io.KnownBytes.{Consumes}
 use Rattle.ecr_model.specs.declared.http.Head.{Head}
 use Rattle.ecr_model.specs.declared.http.Framing.{Framing}
+use Rattle.ecr_model.specs.declared.http.Request.{Request}
 use Rattle.ecr_model.specs.http.Framing.{max_head, max_body, IsEnd, Parses, framing_of}
 use Rattle.ecr_model.specs.sessions.Sessions.{max_read, is_waiting}
-use Rattle.ecr_model.specs.http.Stream.{Point, bad, too_long, open_, whole, short, IsFront, closes}
-use Rattle.ecr_http.specs.Leads.{IsReady}
+use Rattle.ecr_model.specs.http.Stream.{Point, whole, IsFront, closes}
+use Rattle.ecr_http.specs.Leads.{IsReady, LacksRequest}
+use Rattle.ecr_http.specs.Reading.{Nexts}
 use Rattle.ecr_http.specs.declared.intake.Intake.{Intake}
+use Rattle.ecr_http.specs.declared.fault.Fault.{Fault}
+use Rattle.ecr_http.specs.declared.fault.Fault.TheVariants as faults
 use Rattle.ecr_http.specs.declared.events.Event.{Event}
 use Rattle.ecr_http.specs.declared.events.Event.TheVariants as events
 
@@ -27,22 +31,24 @@ closes_after events.Mem = true
 abbrev pub point_of : Intake → Bool → Point
 point_of intake closed = record { at = intake.at; ahead = intake.buffer; closed = closed }
 
--- the event for what stands at the front; the flag says whether a 100 was due
-abbrev pub Fronts : ℕ → List ℕ → Intake → Option (List ℕ) → Bool → Event → Type 0
-Fronts at bytes now left due (events.Request request) =
+-- the event for a request, or for the fault in its place
+abbrev pub event_of : Intake → Result Request Fault → Event
+event_of now (Ok request) = events.Request request
+event_of now (Err faults.Ended) = if now.at == now.total then events.End else events.Truncated now.at
+event_of now (Err faults.ReadFault) = events.ReadFault
+event_of now (Err faults.WriteFault) = events.WriteFault
+event_of now (Err faults.Spent) = events.Spent
+event_of now (Err faults.Mem) = events.Mem
+event_of now (Err faults.Bad) = events.Bad now.at
+event_of now (Err (faults.TooLong limit)) = events.TooLong now.at limit
+
+-- the request that stands at the front was used, or there is a fault in its place; the flag says whether a 100 was due
+abbrev pub Fronts : ℕ → List ℕ → Intake → Option (List ℕ) → Bool → Result Request Fault → Type 0
+Fronts at bytes now left due (Ok request) =
     (count : ℕ) × IsFront at bytes (whole request count) × (now.at ≡ at + count) × (now.buffer ≡ drop count bytes)
     × IsReady now
     × (is_waiting request ≡ due)
-Fronts at bytes now left due events.End = (bytes ≡ []) × (due ≡ false) × IsAtEnd left × (now.total < max_read)
-Fronts at bytes now left due (events.Truncated place) =
-    (place ≡ at) × IsFront at bytes (short due open_) × (0 < length bytes) × IsAtEnd left × (now.total < max_read)
-Fronts at bytes now left due (events.Bad place) = (place ≡ at) × IsFront at bytes (short due bad)
-Fronts at bytes now left due (events.TooLong place limit) = (place ≡ at)
-    × IsFront at bytes (short due (too_long limit))
-Fronts at bytes now left due events.ReadFault = IsFront at bytes (short due open_) × (now.total < max_read)
-Fronts at bytes now left due events.WriteFault = ⊥
-Fronts at bytes now left due events.Spent = IsFront at bytes (short due open_) × (max_read ≤ now.total)
-Fronts at bytes now left due events.Mem = ⊤
+Fronts at bytes now left due (Err fault) = LacksRequest at bytes due left now.total fault × (now.at ≡ at)
 
 -- the head that stands there says that its body is delimited like that
 pub record HasHead (bytes : List ℕ) (count : ℕ) (head : Head) (framing : Framing) (limit : ℕ) : Type 0 where
@@ -51,11 +57,18 @@ pub record HasHead (bytes : List ℕ) (count : ℕ) (head : Head) (framing : Fra
   pub framed : framing_of head ≡ Some framing
   pub limit_is : limit ≡ max_body head.target
 
--- the bytes that came of the source behind a head, and the event for them
+-- the bytes that came of the source behind a head, and the request that they complete, or the fault in its place
 pub record Behind (before : Option (List ℕ)) (old : Intake) (after : Option (List ℕ)) (now : Intake) (due : Bool)
-    (event : Event) : Type 0 where
+    (result : Result Request Fault) : Type 0 where
   pub got : List ℕ
   pub consumed : Consumes before after got
   pub counted : now.total ≡ old.total + length got
   pub spent : now.total ≤ max_read
-  pub fronts : Fronts old.at (old.buffer ++ got) now after due event
+  pub fronts : Fronts old.at (old.buffer ++ got) now after due result
+
+-- what a call of a reader takes, tells and gives, by the request that comes next or the fault in its place
+abbrev pub Turns : Option (List ℕ) → Option (List ℕ) → Intake → Option (List ℕ) → Option (List ℕ) → Intake
+    → Result Request Fault → Type 0
+Turns before held old after told now result =
+    Nexts before held (point_of old false) after told (point_of now (closes_after (event_of now result)))
+    (event_of now result)

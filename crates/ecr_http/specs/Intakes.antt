@@ -13,13 +13,13 @@ abbrev pub IsRange : ℕ → ℕ → List ℕ → Type 0
 IsRange start end bytes = (start ≤ end) × (end ≤ length bytes)
 
 -- at least one byte, and no more than there is room for
-abbrev pub HasRoom : Got → ℕ → Type 0
-HasRoom (Bytes n) room = (1 ≤ n) × (n ≤ room)
-HasRoom End room = ⊤
-HasRoom Failed room = ⊤
+abbrev pub FitsRoom : Got → ℕ → Type 0
+FitsRoom (Bytes n) room = (1 ≤ n) × (n ≤ room)
+FitsRoom End room = ⊤
+FitsRoom Failed room = ⊤
 
 -- some bytes, at most so many, came from the source to the end of the buffer
-pub record Gains (most : ℕ) (before : Option (List ℕ)) (old : List ℕ) (after : Option (List ℕ)) (now : List ℕ)
+pub record GainsPiece (most : ℕ) (before : Option (List ℕ)) (old : List ℕ) (after : Option (List ℕ)) (now : List ℕ)
     (n : ℕ) : Type 0 where
   pub piece : List ℕ
   pub consumed : Consumes before after piece
@@ -30,6 +30,6 @@ pub record Gains (most : ℕ) (before : Option (List ℕ)) (old : List ℕ) (aft
 
 -- the buffer after one read
 abbrev pub Fills : ℕ → Option (List ℕ) → List ℕ → Option (List ℕ) → List ℕ → Got → Type 0
-Fills most before old after now (Bytes n) = Gains most before old after now n
+Fills most before old after now (Bytes n) = GainsPiece most before old after now n
 Fills most before old after now End = (now ≡ old) × Keeps before after × IsAtEnd after
 Fills most before old after now Failed = (now ≡ old) × Keeps before after

@@ -1,15 +1,12 @@
 -- How far a head was read, and what was found. Places and sizes are in bytes.
-use Rattle.std.specs.Prelude.{◌≡◌, ℕ, ◌+◌, ◌<◌, ◌≤◌, List, ◌++◌, length, take, drop, min, Option, None, Some, ⊤}
+use Rattle.std.specs.Prelude.{◌≡◌, ℕ, ◌+◌, ◌≤◌, Bool, false, List, ◌++◌, length, drop, Option, Result, Ok, Err, ⊤}
 use Rattle.std.specs.Io.KnownBytes.{Consumes}
-use Rattle.ecr_model.specs.http.Framing.{max_head, IsEnd, HasNoEnd, Parses}
+use Rattle.ecr_model.specs.http.Framing.{max_head, IsEnd, HasNoEnd}
 use Rattle.ecr_model.specs.sessions.Sessions.{max_read}
-use Rattle.ecr_model.specs.http.Stream.{blank_length}
-use Rattle.ecr_http.specs.Takings.{IsStop}
+use Rattle.ecr_model.specs.http.Stream.{blank_length, short, IsFront}
+use Rattle.ecr_http.specs.Faults.{IsFault}
 use Rattle.ecr_http.specs.declared.intake.Intake.{Intake}
-use Rattle.ecr_http.specs.declared.intake.Stop.{Stop}
-use Rattle.ecr_http.specs.declared.intake.Stop.TheVariants as stops
-use Rattle.ecr_http.specs.declared.lead.Lead.{Lead}
-use Rattle.ecr_http.specs.declared.lead.Lead.TheVariants as leads
+use Rattle.ecr_http.specs.declared.fault.Fault.{Fault}
 
 -- the invariant between two requests
 pub record IsReady (intake : Intake) : Type 0 where
@@ -28,37 +25,28 @@ pub record IsRead (before : Option (List ℕ)) (old : Intake) (after : Option (L
   pub placed : now.at ≡ old.at + skipped
   pub ready : IsReady now
 
--- no head is there yet, and there are not too many bytes for one
-abbrev pub IsShort : List ℕ → Type 0
-IsShort bytes = HasNoEnd bytes (length bytes) × (length bytes < max_head)
+-- the cause of a fault in the place of a request at the front of the bytes; the flag says whether a 100 is due
+abbrev pub LacksRequest : ℕ → List ℕ → Bool → Option (List ℕ) → ℕ → Fault → Type 0
+LacksRequest at bytes due left total fault = IsFault (λ lack. IsFront at bytes (short due lack)) left total fault
 
--- where no more bytes come, less than a head is there, or there was no memory
-abbrev pub IsOpen : Stop → List ℕ → Type 0
-IsOpen stops.Ended bytes = IsShort bytes
-IsOpen stops.Failed bytes = IsShort bytes
-IsOpen stops.Spent bytes = IsShort bytes
-IsOpen stops.Mem bytes = ⊤
+-- a head of so many bytes stands at the front of what comes, or there is a fault in its place
+abbrev pub IsLead : Intake → Option (List ℕ) → Result ℕ Fault → Type 0
+IsLead now left (Ok count) = IsEnd max_head now.buffer count
+IsLead now left (Err fault) = LacksRequest now.at now.buffer false left now.total fault
 
--- the front of the bytes, as the look for a head has it
-abbrev pub Shows : List ℕ → ℕ → Option (List ℕ) → Lead → Type 0
-Shows bytes total left (leads.Head head n) = IsEnd max_head bytes n × Parses (take n bytes) (Some head)
-Shows bytes total left leads.Bad = (n : ℕ) × IsEnd max_head bytes n × Parses (take n bytes) None
-Shows bytes total left leads.Long = HasNoEnd bytes (min (length bytes) max_head) × (max_head ≤ length bytes)
-Shows bytes total left (leads.Stopped stop) = IsOpen stop bytes × IsStop stop left total
-
--- the head was read, or what stands in its place
+-- the blank bytes were passed, and the end of the head was found, or there is a fault in its place
 pub record Leads (before : Option (List ℕ)) (old : Intake) (after : Option (List ℕ)) (now : Intake)
-    (lead : Lead) : Type 0 where
+    (lead : Result ℕ Fault) : Type 0 where
   pub read : IsRead before old after now
   pub none : blank_length now.buffer ≡ 0
-  pub shows : Shows now.buffer now.total after lead
+  pub stands : IsLead now after lead
 
--- the reading goes on, or has found what it looks for
-abbrev pub GoesOn : Option (List ℕ) → Intake → Option (List ℕ) → Intake → Option Lead → Type 0
-GoesOn before old after now None = IsRead before old after now
-GoesOn before old after now (Some lead) = Leads before old after now lead
+-- the reading goes on, or there is a fault in place of the head
+abbrev pub LooksOn : Option (List ℕ) → Intake → Option (List ℕ) → Intake → Result ⊤ Fault → Type 0
+LooksOn before old after now (Ok done) = IsRead before old after now
+LooksOn before old after now (Err fault) = Leads before old after now (Err fault)
 
 -- without the first bytes, so many
-abbrev pub passed : ℕ → Intake → Intake
-passed count intake =
+abbrev pub past_front : ℕ → Intake → Intake
+past_front count intake =
     record intake { buffer = drop count intake.buffer; at = intake.at + count; scanned = 0 }

@@ -2,6 +2,7 @@ pub mod Spans
 pub mod Lines
 pub mod Sends
 pub mod Intakes
+pub mod Faults
 pub mod Takings
 pub mod Leads
 pub mod Bodies

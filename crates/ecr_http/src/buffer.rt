@@ -2,7 +2,7 @@
 ghost use Rattle.std.specs.Prelude.{◌≡◌, ◌+◌, ◌≤◌, ◌<◌, ◌++◌, [], List, ℕ, length, take, drop, OnOk, OnErr, IfOk};
 ghost use Rattle.std.specs.Io.KnownBytes.{Keeps};
 ghost use Rattle.ecr_outside.specs.Source.{Gives, HasCause};
-ghost use Rattle.ecr_http.specs.Intakes.{Fills, HasRoom};
+ghost use Rattle.ecr_http.specs.Intakes.{Fills, FitsRoom};
 
 use ecr_model::Mem;
 use ecr_outside::{Got, Source};
@@ -128,7 +128,7 @@ fn make_room(room: &mut Vec<u8>, end: usize, most: usize) -> Result<(), Mem>
 fn read_at<S: Source>(source: &mut S, room: &mut Vec<u8>, end: usize, most: usize) -> Got
     requires some { 0 < most }
     requires within { end + most ≤ length room.old.items }
-    ensures count { HasRoom result most }
+    ensures count { FitsRoom result most }
     ensures long { length room.new.items ≡ length room.old.items }
     ensures kept { take end room.new.items ≡ take end room.old.items }
     ensures bytes { Gives (S.left source.old) (S.left source.new) (drop end room.new.items) result }
@@ -142,7 +142,7 @@ fn read_at<S: Source>(source: &mut S, room: &mut Vec<u8>, end: usize, most: usiz
 fn read_some<S: Source>(source: &mut S, piece: &mut [u8], most: usize) -> Got
     requires some { 0 < most }
     requires within { most ≤ length piece.old }
-    ensures count { HasRoom result most }
+    ensures count { FitsRoom result most }
     ensures length { length piece.new ≡ length piece.old }
     ensures bytes { Gives (S.left source.old) (S.left source.new) piece.new result }
     ensures later { S.faults source.old ≤ S.faults source.new }

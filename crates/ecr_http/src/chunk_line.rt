@@ -3,21 +3,11 @@ ghost use Rattle.std.specs.Prelude.{◌≡◌};
 ghost use Rattle.ecr_model.specs.http.Chunks.{line_size, line_end, Says};
 ghost use Rattle.ecr_http.specs.Decoding.{IsClosed};
 
+use crate::fault::Fault;
 use httparse::{Status, parse_chunk_size};
 
 /// The greatest length of a chunk's line, with its line end (of this registry).
 pub(crate) const MAX_CHUNK_LINE: usize = 1_024;
-
-/// What stands behind a chunk's data.
-#[derive(Clone, Copy)]
-pub enum Closing {
-    /// CR LF, as it is due.
-    Crlf,
-    /// Less, which can become CR LF.
-    Less,
-    /// Another byte.
-    Other,
-}
 
 /// The place of the first LF, if a chunk's line that ends there is within the limit.
 #[tactic(auto, unfolding(ecr_model::specs::http::Chunks::max_chunk_line))]
@@ -50,14 +40,14 @@ pub(crate) fn size_of(line: &[u8]) -> Option<u64>
     }
 }
 
-/// What stands at the front of the bytes behind a chunk's data.
-pub(crate) fn closing_of(bytes: &[u8]) -> Closing
-    ensures { IsClosed bytes.now result }
+/// Whether CR LF stands at the front of the bytes behind a chunk's data, or less, which can become CR LF.
+pub(crate) fn is_closed(bytes: &[u8]) -> Result<bool, Fault>
+    ensures closed { IsClosed bytes.now result }
 {
     match bytes {
-        [] => Closing::Less,
-        [b'\r'] => Closing::Less,
-        [b'\r', b'\n', ..] => Closing::Crlf,
-        _ => Closing::Other,
+        [] => Ok(false),
+        [b'\r'] => Ok(false),
+        [b'\r', b'\n', ..] => Ok(true),
+        _ => Err(Fault::Bad),
     }
 }

@@ -1,10 +1,11 @@
 // Bodies that come in chunks (RFC 9112, section 7.1). Places and sizes are in bytes.
-ghost use Rattle.std.specs.Prelude.{◌≡◌, ◌<◌, ◌≤◌, ◌+◌, ℕ, List, Option, Some, None, length, IfOk};
+ghost use Rattle.std.specs.Prelude.{◌≡◌, ◌<◌, ◌≤◌, ◌+◌, ℕ, List, Option, Some, None, Err, length};
 
 use crate::body::Taken;
-use crate::chunk_line::{Closing, MAX_CHUNK_LINE, closing_of, line_end, size_of};
+use crate::chunk_line::{MAX_CHUNK_LINE, is_closed, line_end, size_of};
+use crate::fault::Fault;
 use crate::head::find_end_within;
-use crate::intake::{Intake, Stop};
+use crate::intake::Intake;
 use ecr_outside::Source;
 use std::alloc::Global;
 
@@ -22,21 +23,6 @@ pub enum Stage {
     Trailers(usize),
 }
 
-/// How the decoding goes on.
-#[derive(Clone, Copy)]
-pub enum Next {
-    /// With that stage.
-    Go(Stage),
-    /// The body is whole.
-    Whole,
-    /// No chunked body stands there.
-    Bad,
-    /// There are more bytes than that limit allows.
-    Long(u64),
-    /// More bytes are needed, and none comes.
-    Stopped(Stop),
-}
-
 impl Intake {
     ghost use Rattle.ecr_model.specs.declared.http.Framing.TheVariants as framing;
     ghost use Rattle.ecr_model.specs.http.Framing.{EndsAt};
@@ -44,9 +30,7 @@ impl Intake {
     ghost use Rattle.ecr_model.specs.sessions.Sessions.{max_read};
     ghost use Rattle.ecr_http.specs.Bodies.{Bodies};
     ghost use Rattle.ecr_http.specs.Decoding.{Decodes, Awaits, DecodesOn, IsScanned, IsNearer, left_to_do};
-    ghost use Rattle.ecr_http.specs.declared.body.Taken.TheVariants as taken;
     ghost use Rattle.ecr_http.specs.declared.chunks.Stage.TheVariants as stage;
-    ghost use Rattle.ecr_http.specs.declared.chunks.Next.TheVariants as next;
 
     /// Takes a chunked body of at most `limit` bytes of data.
     pub(crate) fn take_chunked<S: Source>(
@@ -54,46 +38,47 @@ impl Intake {
         alloc: Global,
         source: &mut S,
         limit: u64,
-    ) -> Taken
+    ) -> Result<Taken, Fault>
         requires spent { self.old.total ≤ max_read }
         requires held { length self.old.buffer ≤ self.old.total }
         ensures takes { Bodies limit framing.Chunked (S.left source.old) self.old (S.left source.new) self.new result }
         ensures later { S.faults source.old ≤ S.faults source.new }
-        ensures cause { result ≡ taken.Stopped Stop.Failed → S.faults source.old < S.faults source.new }
+        ensures cause { result ≡ Err Fault.ReadFault → S.faults source.old < S.faults source.new }
     {
         let held = self.buffer.len() as u64;
         let total = self.total;
         let mut body = Vec::new(alloc);
         let mut stage = Stage::Line;
         loop {
-            match self.decode(source, &mut body, stage, limit) {
-                Next::Go(next) => stage = next,
-                Next::Whole => {
+            let next = self.decode(source, &mut body, stage, limit)?;
+            match next {
+                Some(further) => stage = further,
+                None => {
                     let size = held + (self.total - total) - self.buffer.len() as u64;
-                    return Taken::Body(body, size as usize);
+                    return Ok(Taken {
+                        body,
+                        size: size as usize,
+                    });
                 }
-                Next::Bad => return Taken::Bad,
-                Next::Long(most) => return Taken::Long(most),
-                Next::Stopped(stop) => return Taken::Stopped(stop),
             }
         }
     }
 
-    // One step: what stands in the buffer is used, or one read.
+    // One step: what stands in the buffer is used, or one read. The stage that comes next; none where the body is whole.
     fn decode<S: Source>(
         &mut self,
         source: &mut S,
         body: &mut Vec<u8>,
         stage: Stage,
         limit: u64,
-    ) -> Next
+    ) -> Result<Option<Stage>, Fault>
         requires { IsScanned self.old.buffer stage }
         ensures goes_on { (before : Option (List ℕ)) (old : Intake)
             → Decodes limit before old (S.left source.old) self.old body.old.items stage
             → DecodesOn limit before old (S.left source.new) self.new body.new.items result }
         ensures nearer { IsNearer result self.new (left_to_do stage self.old) }
         ensures later { S.faults source.old ≤ S.faults source.new }
-        ensures cause { result ≡ next.Stopped Stop.Failed → S.faults source.old < S.faults source.new }
+        ensures cause { result ≡ Err Fault.ReadFault → S.faults source.old < S.faults source.new }
     {
         match stage {
             Stage::Line => self.decode_line(source, body.len(), limit),
@@ -103,28 +88,31 @@ impl Intake {
     }
 
     // Reads more, at that stage.
-    fn read_on<S: Source>(&mut self, source: &mut S, stage: Stage) -> Next
+    fn read_on<S: Source>(&mut self, source: &mut S, stage: Stage) -> Result<Option<Stage>, Fault>
         ensures goes_on { (limit : ℕ) (before : Option (List ℕ)) (old : Intake) (body : List ℕ)
             → Awaits limit before old (S.left source.old) self.old body stage
             → DecodesOn limit before old (S.left source.new) self.new body result }
         ensures nearer { IsNearer result self.new (left_to_do stage self.old) }
         ensures later { S.faults source.old ≤ S.faults source.new }
-        ensures cause { result ≡ next.Stopped Stop.Failed → S.faults source.old < S.faults source.new }
+        ensures cause { result ≡ Err Fault.ReadFault → S.faults source.old < S.faults source.new }
     {
-        match self.fill(source) {
-            None => Next::Go(stage),
-            Some(stop) => Next::Stopped(stop),
-        }
+        self.fill(source)?;
+        Ok(Some(stage))
     }
 
     // A chunk's line comes next, behind `so_far` bytes of data.
-    fn decode_line<S: Source>(&mut self, source: &mut S, so_far: usize, limit: u64) -> Next
+    fn decode_line<S: Source>(
+        &mut self,
+        source: &mut S,
+        so_far: usize,
+        limit: u64,
+    ) -> Result<Option<Stage>, Fault>
         ensures goes_on { (before : Option (List ℕ)) (old : Intake) (body : List ℕ) → length body ≡ so_far
             → Decodes limit before old (S.left source.old) self.old body stage.Line
             → DecodesOn limit before old (S.left source.new) self.new body result }
         ensures nearer { IsNearer result self.new (left_to_do stage.Line self.old) }
         ensures later { S.faults source.old ≤ S.faults source.new }
-        ensures cause { result ≡ next.Stopped Stop.Failed → S.faults source.old < S.faults source.new }
+        ensures cause { result ≡ Err Fault.ReadFault → S.faults source.old < S.faults source.new }
     {
         match line_end(self.buffer.as_slice()) {
             Some(place) => self.begin(place, so_far, limit),
@@ -134,53 +122,58 @@ impl Intake {
 
     // Reads more of a chunk's line, unless there is more already than a line may have.
     #[tactic(auto, unfolding(ecr_model::specs::http::Chunks::max_chunk_line))]
-    fn lengthen_line<S: Source>(&mut self, source: &mut S) -> Next
+    fn lengthen_line<S: Source>(&mut self, source: &mut S) -> Result<Option<Stage>, Fault>
         requires { line_end self.old.buffer ≡ None }
         ensures goes_on { (limit : ℕ) (before : Option (List ℕ)) (old : Intake) (body : List ℕ)
             → Decodes limit before old (S.left source.old) self.old body stage.Line
             → DecodesOn limit before old (S.left source.new) self.new body result }
         ensures nearer { IsNearer result self.new (left_to_do stage.Line self.old) }
         ensures later { S.faults source.old ≤ S.faults source.new }
-        ensures cause { result ≡ next.Stopped Stop.Failed → S.faults source.old < S.faults source.new }
+        ensures cause { result ≡ Err Fault.ReadFault → S.faults source.old < S.faults source.new }
     {
         if self.buffer.len() >= MAX_CHUNK_LINE {
-            return Next::Bad;
+            return Err(Fault::Bad);
         }
         self.read_on(source, Stage::Line)
     }
 
     // Uses the line whose LF stands at that place; of the last chunk's line the LF stays, since an empty line may follow it.
-    fn begin(&mut self, place: usize, so_far: usize, limit: u64) -> Next
+    fn begin(&mut self, place: usize, so_far: usize, limit: u64) -> Result<Option<Stage>, Fault>
         requires { line_end self.old.buffer ≡ Some place }
         ensures goes_on { (before after : Option (List ℕ)) (old : Intake) (body : List ℕ) → length body ≡ so_far
             → Decodes limit before old after self.old body stage.Line → DecodesOn limit before old after self.new body result }
         ensures nearer { IsNearer result self.new (left_to_do stage.Line self.old) }
-        ensures no_fault { result ≡ next.Stopped Stop.Failed → ⊥ }
+        ensures no_fault { result ≡ Err Fault.ReadFault → ⊥ }
     {
         match size_of(&self.buffer.as_slice()[..place + 1]) {
-            None => Next::Bad,
+            None => Err(Fault::Bad),
             Some(0) => {
                 self.buffer.skip(place);
-                Next::Go(Stage::Trailers(0))
+                Ok(Some(Stage::Trailers(0)))
             }
             Some(size) => {
                 if size > limit.saturating_sub(so_far as u64) {
-                    return Next::Long(limit);
+                    return Err(Fault::TooLong(limit));
                 }
                 self.buffer.skip(place + 1);
-                Next::Go(Stage::Data(size))
+                Ok(Some(Stage::Data(size)))
             }
         }
     }
 
     // So many bytes of a chunk's data come next, and CR LF.
-    fn decode_data<S: Source>(&mut self, source: &mut S, body: &mut Vec<u8>, left: u64) -> Next
+    fn decode_data<S: Source>(
+        &mut self,
+        source: &mut S,
+        body: &mut Vec<u8>,
+        left: u64,
+    ) -> Result<Option<Stage>, Fault>
         ensures goes_on { (limit : ℕ) (before : Option (List ℕ)) (old : Intake)
             → Decodes limit before old (S.left source.old) self.old body.old.items (stage.Data left)
             → DecodesOn limit before old (S.left source.new) self.new body.new.items result }
         ensures nearer { IsNearer result self.new (left_to_do (stage.Data left) self.old) }
         ensures later { S.faults source.old ≤ S.faults source.new }
-        ensures cause { result ≡ next.Stopped Stop.Failed → S.faults source.old < S.faults source.new }
+        ensures cause { result ≡ Err Fault.ReadFault → S.faults source.old < S.faults source.new }
     {
         if left == 0 {
             return self.close(source);
@@ -192,56 +185,56 @@ impl Intake {
     }
 
     // Moves what is there of a chunk's data to the body.
-    fn move_data(&mut self, body: &mut Vec<u8>, left: u64) -> Next
+    fn move_data(&mut self, body: &mut Vec<u8>, left: u64) -> Result<Option<Stage>, Fault>
         requires some { 0 < left }
         requires there { 0 < length self.old.buffer }
         ensures goes_on { (limit : ℕ) (before after : Option (List ℕ)) (old : Intake)
             → Decodes limit before old after self.old body.old.items (stage.Data left)
             → DecodesOn limit before old after self.new body.new.items result }
         ensures nearer { IsNearer result self.new (left_to_do (stage.Data left) self.old) }
-        ensures no_fault { result ≡ next.Stopped Stop.Failed → ⊥ }
+        ensures no_fault { result ≡ Err Fault.ReadFault → ⊥ }
     {
         let count = self.buffer.len().min(left as usize);
-        match self.buffer.move_to(body, count) {
-            Ok(()) => Next::Go(Stage::Data(left - count as u64)),
-            Err(_) => Next::Stopped(Stop::Mem),
-        }
+        self.buffer.move_to(body, count)?;
+        Ok(Some(Stage::Data(left - count as u64)))
     }
 
     // CR LF comes next, behind a chunk's data.
-    fn close<S: Source>(&mut self, source: &mut S) -> Next
+    fn close<S: Source>(&mut self, source: &mut S) -> Result<Option<Stage>, Fault>
         ensures goes_on { (limit : ℕ) (before : Option (List ℕ)) (old : Intake) (body : List ℕ)
             → Decodes limit before old (S.left source.old) self.old body (stage.Data 0)
             → DecodesOn limit before old (S.left source.new) self.new body result }
         ensures nearer { IsNearer result self.new (left_to_do (stage.Data 0) self.old) }
         ensures later { S.faults source.old ≤ S.faults source.new }
-        ensures cause { result ≡ next.Stopped Stop.Failed → S.faults source.old < S.faults source.new }
+        ensures cause { result ≡ Err Fault.ReadFault → S.faults source.old < S.faults source.new }
     {
-        match closing_of(self.buffer.as_slice()) {
-            Closing::Crlf => {
-                self.buffer.skip(2);
-                Next::Go(Stage::Line)
-            }
-            Closing::Less => self.read_on(source, Stage::Data(0)),
-            Closing::Other => Next::Bad,
+        let closed = is_closed(self.buffer.as_slice())?;
+        if closed {
+            self.buffer.skip(2);
+            return Ok(Some(Stage::Line));
         }
+        self.read_on(source, Stage::Data(0))
     }
 
     // The trailer section comes next, in whose first `scanned` bytes no empty line ends.
     #[tactic(auto, unfolding(ecr_model::specs::http::Chunks::max_trailers))]
-    fn decode_trailers<S: Source>(&mut self, source: &mut S, scanned: usize) -> Next
+    fn decode_trailers<S: Source>(
+        &mut self,
+        source: &mut S,
+        scanned: usize,
+    ) -> Result<Option<Stage>, Fault>
         requires { IsScanned self.old.buffer (stage.Trailers scanned) }
         ensures goes_on { (limit : ℕ) (before : Option (List ℕ)) (old : Intake) (body : List ℕ)
             → Decodes limit before old (S.left source.old) self.old body (stage.Trailers scanned)
             → DecodesOn limit before old (S.left source.new) self.new body result }
         ensures nearer { IsNearer result self.new (left_to_do (stage.Trailers scanned) self.old) }
         ensures later { S.faults source.old ≤ S.faults source.new }
-        ensures cause { result ≡ next.Stopped Stop.Failed → S.faults source.old < S.faults source.new }
+        ensures cause { result ≡ Err Fault.ReadFault → S.faults source.old < S.faults source.new }
     {
         match find_end_within(self.buffer.as_slice(), scanned, MAX_TRAILERS + 1) {
             Some(end) => {
                 self.buffer.skip(end);
-                Next::Whole
+                Ok(None)
             }
             None => self.lengthen_trailers(source),
         }
@@ -249,17 +242,17 @@ impl Intake {
 
     // Reads more of the trailer section, unless there is more already than it may have.
     #[tactic(auto, unfolding(ecr_model::specs::http::Chunks::max_trailers))]
-    fn lengthen_trailers<S: Source>(&mut self, source: &mut S) -> Next
+    fn lengthen_trailers<S: Source>(&mut self, source: &mut S) -> Result<Option<Stage>, Fault>
         requires { EndsAt (1 + max_trailers) self.old.buffer None }
         ensures goes_on { (limit scanned : ℕ) (before : Option (List ℕ)) (old : Intake) (body : List ℕ)
             → Decodes limit before old (S.left source.old) self.old body (stage.Trailers scanned)
             → DecodesOn limit before old (S.left source.new) self.new body result }
         ensures nearer { (scanned : ℕ) → IsNearer result self.new (left_to_do (stage.Trailers scanned) self.old) }
         ensures later { S.faults source.old ≤ S.faults source.new }
-        ensures cause { result ≡ next.Stopped Stop.Failed → S.faults source.old < S.faults source.new }
+        ensures cause { result ≡ Err Fault.ReadFault → S.faults source.old < S.faults source.new }
     {
         if self.buffer.len() > MAX_TRAILERS {
-            return Next::Long(MAX_TRAILERS as u64);
+            return Err(Fault::TooLong(MAX_TRAILERS as u64));
         }
         let scanned = self.buffer.len();
         self.read_on(source, Stage::Trailers(scanned))

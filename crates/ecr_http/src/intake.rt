@@ -1,8 +1,9 @@
 // What a reader keeps between the bytes of a source and its requests.
 ghost use Rattle.std.specs.Prelude.{◌≡◌, ◌<◌, ◌≤◌, ◌+◌, ℕ, Option, List, length};
-ghost use Rattle.ecr_http.specs.Takings.{Takes};
+ghost use Rattle.ecr_http.specs.Takings.{ReadsOnce};
 
 use crate::buffer::{Buffer, PIECE};
+use crate::fault::Fault;
 use ecr_outside::{Got, Source};
 
 /// The most bytes that a reader takes from its source.
@@ -21,43 +22,30 @@ pub struct Intake {
     pub scanned: usize,
 }
 
-/// Why no more bytes come.
-#[derive(Clone, Copy)]
-pub enum Stop {
-    /// The source has ended.
-    Ended,
-    /// The source failed.
-    Failed,
-    /// All bytes that may be read were read.
-    Spent,
-    /// There is no memory for more.
-    Mem,
-}
-
 impl Intake {
     ghost use Rattle.ecr_http.specs.Takings.{left_to_read};
-    ghost use Rattle.std.specs.Prelude.{IfNone, Some};
+    ghost use Rattle.std.specs.Prelude.{OnOk, Err};
 
-    /// Reads once. Where nothing comes, all is as before.
+    /// Reads once. After an `Err` all is as before.
     #[tactic(auto, unfolding(ecr_model::specs::sessions::Sessions::max_read))]
-    pub(crate) fn fill<S: Source>(&mut self, source: &mut S) -> Option<Stop>
-        ensures takes { Takes (S.left source.old) self.old (S.left source.new) self.new result }
-        ensures nearer { IfNone result (left_to_read self.new < left_to_read self.old) }
+    pub(crate) fn fill<S: Source>(&mut self, source: &mut S) -> Result<(), Fault>
+        ensures reads { ReadsOnce (S.left source.old) self.old (S.left source.new) self.new result }
+        ensures nearer { OnOk result (left_to_read self.new < left_to_read self.old) }
         ensures later { S.faults source.old ≤ S.faults source.new }
-        ensures cause { result ≡ Some Stop.Failed → S.faults source.old < S.faults source.new }
+        ensures cause { result ≡ Err Fault.ReadFault → S.faults source.old < S.faults source.new }
     {
         if self.total >= MAX_READ {
-            return Some(Stop::Spent);
+            return Err(Fault::Spent);
         }
         let most = PIECE.min((MAX_READ - self.total) as usize);
-        match self.buffer.fill(source, most) {
-            Err(_) => Some(Stop::Mem),
-            Ok(Got::Bytes(n)) => {
+        let got = self.buffer.fill(source, most)?;
+        match got {
+            Got::Bytes(n) => {
                 self.total += n as u64;
-                None
+                Ok(())
             }
-            Ok(Got::End) => Some(Stop::Ended),
-            Ok(Got::Failed) => Some(Stop::Failed),
+            Got::End => Err(Fault::Ended),
+            Got::Failed => Err(Fault::ReadFault),
         }
     }
 }

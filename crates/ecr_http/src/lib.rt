@@ -11,6 +11,7 @@ mod chunk_line;
 mod chunks;
 mod empty;
 mod events;
+mod fault;
 mod fields;
 mod framing;
 mod head;

@@ -1,5 +1,5 @@
 // The next event of a source.
-ghost use Rattle.std.specs.Prelude.{◌≡◌, ◌<◌, ◌≤◌, ℕ, true, List, Option, Some, IfOk, take};
+ghost use Rattle.std.specs.Prelude.{◌≡◌, ◌<◌, ◌≤◌, ℕ, true, List, Option, Some, Err, OnOk, take};
 ghost use Rattle.ecr_model.specs.http.Framing.{max_head, IsEnd, Parses, waits};
 ghost use Rattle.ecr_model.specs.http.Replies.{continue_reply, interim};
 ghost use Rattle.ecr_model.specs.http.Stream.{request_of};
@@ -8,25 +8,21 @@ ghost use Rattle.ecr_http.specs.Sends.{Sends};
 use crate::body::Taken;
 use crate::buffer::Buffer;
 use crate::events::Event;
+use crate::fault::Fault;
 use crate::framing::{fits_limit, framing_of, max_body, waits};
-use crate::head::MAX_HEAD;
-use crate::intake::{Intake, Stop};
-use crate::lead::Lead;
+use crate::intake::Intake;
 use crate::write::{Sent, send};
-use ecr_model::{Framing, Head, Mem, Request, Text};
+use ecr_model::{Framing, Head, Request, Text};
 use ecr_outside::{Sink, Source};
 use std::alloc::Global;
 
 impl Intake {
-    ghost use Rattle.ecr_model.specs.sessions.Sessions.{max_read};
-    ghost use Rattle.ecr_http.specs.Events.{HasHead, Behind, closes_after, point_of, Fronts};
-    ghost use Rattle.ecr_http.specs.Bodies.{FitsLimit};
-    ghost use Rattle.ecr_http.specs.Leads.{IsReady, IsOpen, Leads};
-    ghost use Rattle.ecr_http.specs.Reading.{Nexts};
-    ghost use Rattle.ecr_http.specs.Takings.{IsStop};
-    ghost use Rattle.ecr_http.specs.declared.lead.Lead.TheVariants as lead;
-    ghost use Rattle.ecr_model.specs.http.Stream.{start};
     ghost use Rattle.std.specs.Prelude.{[], false};
+    ghost use Rattle.ecr_model.specs.http.Stream.{blank_length, start};
+    ghost use Rattle.ecr_http.specs.Bodies.{FitsLimit};
+    ghost use Rattle.ecr_http.specs.Events.{HasHead, Behind, Turns, closes_after, event_of, point_of};
+    ghost use Rattle.ecr_http.specs.Leads.{IsReady, IsRead};
+    ghost use Rattle.ecr_http.specs.Reading.{Nexts};
 
     /// Nothing was read.
     pub(crate) fn new(alloc: Global) -> Intake
@@ -48,7 +44,7 @@ impl Intake {
         source: &mut S,
         sink: &mut K,
     ) -> Event
-        requires { IsReady self.old }
+        requires ready { IsReady self.old }
         ensures next { Nexts (S.left source.old) (K.held sink.old) (point_of self.old false) (S.left source.new)
             (K.held sink.new) (point_of self.new (closes_after result)) result }
         ensures ready { closes_after result ≡ false → IsReady self.new }
@@ -57,38 +53,52 @@ impl Intake {
         ensures read_cause { result ≡ Event.ReadFault → S.faults source.old < S.faults source.new }
         ensures write_cause { result ≡ Event.WriteFault → K.faults sink.old < K.faults sink.new }
     {
-        match self.find_head(alloc, source) {
-            Lead::Head(head, count) => self.with_head(alloc, head, count, source, sink),
-            Lead::Bad => Event::Bad(self.at),
-            Lead::Long => Event::TooLong {
-                at: self.at,
-                limit: MAX_HEAD as u64,
-            },
-            Lead::Stopped(stop) => self.stopped(stop),
-        }
+        let found = self.next_request(alloc, source, sink);
+        self.event_of(found)
     }
 
-    // What is given where no more bytes come: where none is left in the buffer, the input has ended between two requests.
-    fn stopped(&self, stop: Stop) -> Event
-        requires { IsOpen stop self.now.buffer }
-        ensures fronts { (left : Option (List ℕ)) → IsStop stop left self.now.total
-            → Fronts self.now.at self.now.buffer self.now left false result }
-        ensures cause { result ≡ Event.ReadFault → stop ≡ Stop.Failed }
-        ensures no_write { result ≡ Event.WriteFault → ⊥ }
-        ensures last { closes_after result ≡ true }
+    // The event for a request, or for the fault in its place. The source has ended between two requests where all bytes
+    // that were read were used.
+    fn event_of(&self, found: Result<Request, Fault>) -> Event
+        ensures event { result ≡ event_of self.now found }
     {
-        match stop {
-            Stop::Ended => {
-                if self.buffer.len() == 0 {
+        match found {
+            Ok(request) => Event::Request(request),
+            Err(Fault::Ended) => {
+                if self.at == self.total {
                     Event::End
                 } else {
                     Event::Truncated(self.at)
                 }
             }
-            Stop::Failed => Event::ReadFault,
-            Stop::Spent => Event::Spent,
-            Stop::Mem => Event::Mem,
+            Err(Fault::ReadFault) => Event::ReadFault,
+            Err(Fault::WriteFault) => Event::WriteFault,
+            Err(Fault::Spent) => Event::Spent,
+            Err(Fault::Mem) => Event::Mem,
+            Err(Fault::Bad) => Event::Bad(self.at),
+            Err(Fault::TooLong(limit)) => Event::TooLong { at: self.at, limit },
         }
+    }
+
+    // The request that comes next of the source.
+    fn next_request<S: Source, K: Sink>(
+        &mut self,
+        alloc: Global,
+        source: &mut S,
+        sink: &mut K,
+    ) -> Result<Request, Fault>
+        requires ready { IsReady self.old }
+        ensures next { Turns (S.left source.old) (K.held sink.old) self.old (S.left source.new) (K.held sink.new) self.new
+            result }
+        ensures ready { OnOk result (IsReady self.new) }
+        ensures reads_later { S.faults source.old ≤ S.faults source.new }
+        ensures writes_later { K.faults sink.old ≤ K.faults sink.new }
+        ensures read_cause { result ≡ Err Fault.ReadFault → S.faults source.old < S.faults source.new }
+        ensures write_cause { result ≡ Err Fault.WriteFault → K.faults sink.old < K.faults sink.new }
+    {
+        let count = self.find_head(source)?;
+        let head = self.parse(alloc, count)?;
+        self.with_head(alloc, head, count, source, sink)
     }
 
     // A head of `count` bytes stands at the front.
@@ -99,28 +109,28 @@ impl Intake {
         count: usize,
         source: &mut S,
         sink: &mut K,
-    ) -> Event
+    ) -> Result<Request, Fault>
         requires ready { IsReady self.old }
         requires ends { IsEnd max_head self.old.buffer count }
         requires parses { Parses (take count self.old.buffer) (Some head) }
         ensures next { (before : Option (List ℕ)) (old : Intake)
-            → Leads before old (S.left source.old) self.old (lead.Head head count)
-            → Nexts before (K.held sink.old) (point_of old false) (S.left source.new) (K.held sink.new) (point_of self.new (closes_after result)) result }
-        ensures ready { closes_after result ≡ false → IsReady self.new }
+            → IsRead before old (S.left source.old) self.old → blank_length self.old.buffer ≡ 0
+            → Turns before (K.held sink.old) old (S.left source.new) (K.held sink.new) self.new result }
+        ensures ready { OnOk result (IsReady self.new) }
         ensures reads_later { S.faults source.old ≤ S.faults source.new }
         ensures writes_later { K.faults sink.old ≤ K.faults sink.new }
-        ensures read_cause { result ≡ Event.ReadFault → S.faults source.old < S.faults source.new }
-        ensures write_cause { result ≡ Event.WriteFault → K.faults sink.old < K.faults sink.new }
+        ensures read_cause { result ≡ Err Fault.ReadFault → S.faults source.old < S.faults source.new }
+        ensures write_cause { result ≡ Err Fault.WriteFault → K.faults sink.old < K.faults sink.new }
     {
         let Some(framing) = framing_of(&head) else {
-            return Event::Bad(self.at);
+            return Err(Fault::Bad);
         };
         let limit = max_body(head.target.as_bytes());
         if !fits_limit(framing, limit) {
-            return Event::TooLong { at: self.at, limit };
+            return Err(Fault::TooLong(limit));
         }
         match tell(&head, sink) {
-            Sent::WriteFault => Event::WriteFault,
+            Sent::WriteFault => Err(Fault::WriteFault),
             Sent::Done => self.take_request(alloc, head, count, framing, limit, source),
         }
     }
@@ -134,30 +144,20 @@ impl Intake {
         framing: Framing,
         limit: u64,
         source: &mut S,
-    ) -> Event
+    ) -> Result<Request, Fault>
         requires ready { IsReady self.old }
         requires head { HasHead self.old.buffer count head framing limit }
         requires fits { FitsLimit framing limit }
         ensures behind { Behind (S.left source.old) self.old (S.left source.new) self.new (waits head) result }
         ensures later { S.faults source.old ≤ S.faults source.new }
-        ensures cause { result ≡ Event.ReadFault → S.faults source.old < S.faults source.new }
-        ensures no_write { result ≡ Event.WriteFault → ⊥ }
+        ensures cause { result ≡ Err Fault.ReadFault → S.faults source.old < S.faults source.new }
     {
         self.buffer.skip(count);
-        match self.take_body(alloc, source, framing, limit) {
-            Taken::Body(body, size) => {
-                let at = self.at;
-                self.at += (count + size) as u64;
-                self.scanned = 0;
-                Event::Request(request_of(at, head, body))
-            }
-            Taken::Bad => Event::Bad(self.at),
-            Taken::Long(limit) => Event::TooLong { at: self.at, limit },
-            Taken::Stopped(Stop::Ended) => Event::Truncated(self.at),
-            Taken::Stopped(Stop::Failed) => Event::ReadFault,
-            Taken::Stopped(Stop::Spent) => Event::Spent,
-            Taken::Stopped(Stop::Mem) => Event::Mem,
-        }
+        let Taken { body, size } = self.take_body(alloc, source, framing, limit)?;
+        let at = self.at;
+        self.at += (count + size) as u64;
+        self.scanned = 0;
+        Ok(request_of(at, head, body))
     }
 }
 

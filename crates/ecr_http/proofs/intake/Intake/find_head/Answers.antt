@@ -1,12 +1,16 @@
 use Rattle.std.proofs.Common.{arith}
+use Rattle.std.proofs.lemmas.Result.{err_from_is_err_and}
 use Rattle.ecr_http.proofs.LeadLemmas.{IsRead-start}
 use Rattle.ecr_http.proofs.intake.Intake.find_head.Goals as goal
 
-pub loop-lead-init : goal.loop-lead-init
-loop-lead-init g c = record {
-  read = IsRead-start (g.S.Source.left c.args.source.now) c.args.self.now c.requires;
+pub loop-count-init : goal.loop-count-init
+loop-count-init g c = record {
+  read = IsRead-start (g.S.Source.left c.args.source.now) c.args.self.now c.requires.ready;
   later = omega arith;
 }
 
-pub returns-in-Some-clause-leads : goal.returns-in-Some-clause-leads
-returns-in-Some-clause-leads g c = c.in-Some.ensures.goes_on _ c.args.self.now c.loop-lead.invariant.read
+pub returns-in_err-lengthen-clause-leads : goal.returns-in_err-lengthen-clause-leads
+returns-in_err-lengthen-clause-leads g c =
+    let p = err_from_is_err_and c.from_residual.result c.from_residual.ensures.1 in
+    rw (p.1, p.2) (c.in_err-lengthen.ensures.goes_on _ c.args.self.now
+    (c.skip_blank.ensures.goes_on _ _ c.args.self.now c.loop-count.invariant.read))

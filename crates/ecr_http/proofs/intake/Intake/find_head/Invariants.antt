@@ -3,11 +3,11 @@ use Rattle.ecr_http.specs.Leads.{IsRead}
 use Rattle.ecr_http.specs.Takings.{left_to_read}
 use Rattle.ecr_http.proofs.intake.Intake.find_head.Given as goal
 
-abbrev pub invariant-loop-lead : goal.invariant-loop-lead
-invariant-loop-lead g l = record {
+abbrev pub invariant-loop-count : goal.invariant-loop-count
+invariant-loop-count g l = record {
   read : IsRead (g.S.Source.left l.initial.source) l.initial.self (g.S.Source.left l.source) l.self;
   later : g.S.Source.faults l.initial.source ≤ g.S.Source.faults l.source;
 }
 
-abbrev pub decreases-loop-lead : goal.decreases-loop-lead
-decreases-loop-lead g l = left_to_read l.self
+abbrev pub decreases-loop-count : goal.decreases-loop-count
+decreases-loop-count g l = left_to_read l.self

@@ -1,24 +1,28 @@
-use Rattle.std.proofs.Common.{refl}
-use Rattle.ecr_model.specs.http.Framing.{max_head}
-use Rattle.ecr_http.proofs.EventLemmas.{Nexts-bad, Nexts-long_head, Nexts-stopped}
+use Rattle.std.proofs.Common.{false, sym, ap, ◌∙◌, subst}
+use Rattle.ecr_http.specs.declared.events.Event.{Event}
+use Rattle.ecr_http.specs.Events.{closes_after, point_of}
+use Rattle.ecr_http.specs.Reading.{Nexts}
+use Rattle.ecr_http.proofs.EventLemmas.{IsReady-after, event_of-ReadFault, event_of-WriteFault}
 use Rattle.ecr_http.proofs.intake.Intake.next_event.Goals as goal
 
-pub returns-in-Head-clause-next : goal.returns-in-Head-clause-next
-returns-in-Head-clause-next g c = c.with_head.ensures.next _ c.args.self.now c.in-Head.ensures.leads
+pub returns-clause-next : goal.returns-clause-next
+returns-clause-next g c =
+    subst (λ (e : Event). Nexts (g.S.Source.left c.args.source.now) (g.K.Sink.held c.args.sink.now)
+    (point_of c.args.self.now false) (g.S.Source.left c.next_request-found.new.source)
+    (g.K.Sink.held c.next_request-found.new.sink) (point_of c.next_request-found.new.self (closes_after e)) e)
+    (sym c.event_of.ensures.event) c.next_request-found.ensures.next
 
-pub returns-in-Bad-clause-next : goal.returns-in-Bad-clause-next
-returns-in-Bad-clause-next g c =
-    Nexts-bad _ (g.K.Sink.held c.args.sink.now) c.args.self.now
-    (g.S.Source.left c.find_head.new.source) c.find_head.new.self _ c.in-Bad.ensures.leads refl
+pub returns-clause-ready : goal.returns-clause-ready
+returns-clause-ready g c = λ stays.
+    IsReady-after c.next_request-found.new.self c.next_request-found.result c.next_request-found.ensures.ready
+    (sym (ap closes_after c.event_of.ensures.event) ∙ stays)
 
-pub returns-in-Long-clause-next : goal.returns-in-Long-clause-next
-unfolding max_head
-returns-in-Long-clause-next g c =
-    Nexts-long_head _ (g.K.Sink.held c.args.sink.now) c.args.self.now
-    (g.S.Source.left c.find_head.new.source) c.find_head.new.self _ _ c.in-Long.ensures.leads refl refl
+pub returns-clause-read_cause : goal.returns-clause-read_cause
+returns-clause-read_cause g c = λ is.
+    c.next_request-found.ensures.read_cause (event_of-ReadFault c.next_request-found.new.self c.next_request-found.result
+    (sym c.event_of.ensures.event ∙ is))
 
-pub returns-in-Stopped-clause-next : goal.returns-in-Stopped-clause-next
-returns-in-Stopped-clause-next g c =
-    Nexts-stopped _ (g.K.Sink.held c.args.sink.now) c.args.self.now
-    (g.S.Source.left c.find_head.new.source) c.find_head.new.self c.in-Stopped.stop c.stopped.result
-    c.in-Stopped.ensures.leads (c.stopped.ensures.fronts (g.S.Source.left c.find_head.new.source))
+pub returns-clause-write_cause : goal.returns-clause-write_cause
+returns-clause-write_cause g c = λ is.
+    c.next_request-found.ensures.write_cause (event_of-WriteFault c.next_request-found.new.self c.next_request-found.result
+    (sym c.event_of.ensures.event ∙ is))

@@ -1,49 +1,32 @@
 use Rattle.std.proofs.Common.{arith}
-use Rattle.ecr_http.proofs.DecodingLemmas.{Decodes-start, whole_shows, whole_fits}
+use Rattle.std.proofs.lemmas.Result.{err_from_is_err_and}
+use Rattle.ecr_http.proofs.DecodingLemmas.{Decodes-start, HasBody-decoded, Decoded-rest}
 use Rattle.ecr_http.proofs.intake.Intake.take_chunked.Goals as goal
 
-pub loop-next-init : goal.loop-next-init
-loop-next-init g c = record {
+pub loop-body-init : goal.loop-body-init
+loop-body-init g c = record {
   decodes = Decodes-start c.args.limit _ c.args.self.now c.new-body.result.items c.new-body.ensures.items c.requires.spent;
   later = omega arith;
 }
 
 pub overflow_sub-size : goal.overflow_sub-size
 overflow_sub-size g c =
-    let d = c.in-Whole.ensures.goes_on _ c.args.self.now c.loop-next.invariant.decodes in omega (arith, d.come.counted)
+    let d = rw c.in-None.is at (c.in_ok-next.ensures.goes_on _ c.args.self.now c.loop-body.invariant.decodes) in omega (arith, d.come.counted)
 
-pub overflow_sub-size-in-Whole : goal.overflow_sub-size-in-Whole
-overflow_sub-size-in-Whole g c =
-    let d = c.in-Whole.ensures.goes_on _ c.args.self.now c.loop-next.invariant.decodes in
-    let fits = whole_fits c.args.limit _ c.args.self.now _ c.decode.new.self _ c.len-held.result d c.len-held.ensures in
+pub overflow_sub-size-in-None : goal.overflow_sub-size-in-None
+overflow_sub-size-in-None g c =
+    let d = rw c.in-None.is at (c.in_ok-next.ensures.goes_on _ c.args.self.now c.loop-body.invariant.decodes) in
+    let fits = Decoded-rest c.args.limit _ c.args.self.now _ c.decode.new.self _ c.len-held.result d c.len-held.ensures in
     omega (arith, c.len.ensures)
 
-pub returns-in-Whole-clause-takes : goal.returns-in-Whole-clause-takes
-returns-in-Whole-clause-takes g c =
-    let d = c.in-Whole.ensures.goes_on _ c.args.self.now c.loop-next.invariant.decodes in
+pub returns-in-None-clause-takes : goal.returns-in-None-clause-takes
+returns-in-None-clause-takes g c =
+    let d = rw c.in-None.is at (c.in_ok-next.ensures.goes_on _ c.args.self.now c.loop-body.invariant.decodes) in
     let left = c.len.ensures in
-    record {
-      come = d.come;
-      shows = whole_shows c.args.limit _ c.args.self.now _ c.decode.new.self c.decode.new.body.items c.len-held.result _ d c.len-held.ensures (omega arith);
-    }
+    HasBody-decoded c.args.limit _ c.args.self.now _ c.decode.new.self c.len-held.result _ d c.len-held.ensures
+    (omega arith)
 
-pub returns-in-Bad-clause-takes : goal.returns-in-Bad-clause-takes
-returns-in-Bad-clause-takes g c =
-    let d = c.in-Bad.ensures.goes_on _ c.args.self.now c.loop-next.invariant.decodes in record {
-      come = d.come;
-      shows = d.finds;
-    }
-
-pub returns-in-Long-clause-takes : goal.returns-in-Long-clause-takes
-returns-in-Long-clause-takes g c =
-    let d = c.in-Long.ensures.goes_on _ c.args.self.now c.loop-next.invariant.decodes in record {
-      come = d.come;
-      shows = d.finds;
-    }
-
-pub returns-in-Stopped-clause-takes : goal.returns-in-Stopped-clause-takes
-returns-in-Stopped-clause-takes g c =
-    let d = c.in-Stopped.ensures.goes_on _ c.args.self.now c.loop-next.invariant.decodes in record {
-      come = d.come;
-      shows = d.finds;
-    }
+pub returns-in_err-next-clause-takes : goal.returns-in_err-next-clause-takes
+returns-in_err-next-clause-takes g c =
+    let p = err_from_is_err_and c.from_residual.result c.from_residual.ensures.1 in
+    rw (p.1, p.2) (c.in_err-next.ensures.goes_on _ c.args.self.now c.loop-body.invariant.decodes)
