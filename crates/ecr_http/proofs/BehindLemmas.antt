@@ -12,12 +12,13 @@ use Rattle.ecr_model.specs.declared.http.Request.{Request}
 use Rattle.ecr_model.specs.http.Framing.{max_head, max_body, IsEnd, Parses, framing_of, is_sent, waits}
 use Rattle.ecr_model.specs.http.Replies.{interim}
 use Rattle.ecr_model.specs.sessions.Sessions.{max_read, is_waiting}
+use Rattle.ecr_model.specs.declared.http.Section.TheVariants as sections
 use Rattle.ecr_model.specs.http.Stream.{blank_length, Lack, too_long, BodyFront, complete, lacks, IsBody, with_body, whole, short, IsFront, grown, request_of}
 use Rattle.ecr_model.proofs.lemmas.http.FramingLemmas.{IsEnd-append, IsEnd-positive}
 use Rattle.ecr_model.proofs.lemmas.http.FrontLemmas.{Parses-append, IsBody-length, IsBody-sized_long, IsFront-body, IsFront-whole_length}
 use Rattle.ecr_model.proofs.lemmas.http.StreamLemmas.{blank_length-append}
 use Rattle.ecr_http.specs.Bodies.{FitsLimit, HasBody, LacksBody}
-use Rattle.ecr_http.specs.Events.{point_of, HasHead, Behind, Turns}
+use Rattle.ecr_http.specs.Events.{point_of, HasHead, Behind, TakesRequest}
 use Rattle.ecr_http.specs.Leads.{IsReady, IsRead}
 use Rattle.ecr_http.specs.declared.intake.Intake.{Intake}
 use Rattle.ecr_http.proofs.BodyLemmas.{rest_of}
@@ -25,7 +26,7 @@ use Rattle.ecr_http.proofs.LeadLemmas.{HasNoEnd-zero, drop-drop}
 use Rattle.ecr_http.specs.declared.fault.Fault.{Fault}
 use Rattle.ecr_http.proofs.FaultLemmas.{IsFault-weaker}
 use Rattle.ecr_http.proofs.SettledLemmas.{Settled, Settled-read, AwaitsBody-head, MayTell-due}
-use Rattle.ecr_http.proofs.EventLemmas.{Turns-behind}
+use Rattle.ecr_http.proofs.EventLemmas.{TakesRequest-behind}
 
 and_false : (b : Bool) → (b && false) ≡ false
 and_false true = refl
@@ -51,12 +52,12 @@ waits_over head size framed over =
 pub IsFront-over : (at : ℕ) (bytes : List ℕ) (count : ℕ) (head : Head) (framing : Framing) → IsEnd max_head bytes count
     → Parses (take count bytes) (Some head) → framing_of head ≡ Some framing
     → (FitsLimit framing (max_body head.target) → ⊥)
-    → IsFront at bytes (short false (too_long (max_body head.target)))
+    → IsFront at bytes (short false (too_long sections.Body (max_body head.target)))
 IsFront-over at bytes count head (Sized size) ends parses framed over =
     let beyond : max_body head.target < size = not_le (max_body head.target) size over in
-    subst (λ (due : Bool). IsFront at bytes (short due (too_long (max_body head.target))))
+    subst (λ (due : Bool). IsFront at bytes (short due (too_long sections.Body (max_body head.target))))
     (waits_over head size framed beyond)
-    (IsFront-body at bytes count head (Sized size) (lacks (too_long (max_body head.target))) ends parses framed
+    (IsFront-body at bytes count head (Sized size) (lacks (too_long sections.Body (max_body head.target))) ends parses framed
     (IsBody-sized_long (max_body head.target) size (drop count bytes) beyond))
 IsFront-over at bytes count head Chunked ends parses framed over = absurd (over tt)
 
@@ -66,20 +67,20 @@ no_blank-append : (bytes others : List ℕ) → 0 < length bytes → blank_lengt
 no_blank-append bytes others some none = blank_length-append bytes others (omega arith) ∙ none
 
 -- the request behind a head was read, or there is a fault in its place
-pub Turns-head : (before held told : Option (List ℕ)) (old : Intake) (mid : Option (List ℕ)) (lead : Intake)
+pub TakesRequest-head : (before held told : Option (List ℕ)) (old : Intake) (mid : Option (List ℕ)) (lead : Intake)
     (after : Option (List ℕ)) (now : Intake) (count : ℕ) (head : Head) (result : Result Request Fault)
     → IsRead before old mid lead → blank_length lead.buffer ≡ 0
     → IsEnd max_head lead.buffer count → Parses (take count lead.buffer) (Some head)
     → Behind mid lead after now (waits head) result
     → Appends held told (interim (waits head))
-    → Turns before held old after told now result
-Turns-head before held told old mid lead after now count head result r no_blank ends parses b says =
+    → TakesRequest before held old after told now result
+TakesRequest-head before held told old mid lead after now count head result r no_blank ends parses b says =
     let within : count ≤ length lead.buffer = ends.within in
     let some : 0 < count = IsEnd-positive max_head lead.buffer count ends in
     let none : blank_length (lead.buffer ++ b.got) ≡ 0 = no_blank-append lead.buffer b.got (omega arith) no_blank in
     let p = grown (point_of old false) (r.got ++ b.got) in
     let s : Settled p lead.at (lead.buffer ++ b.got) = Settled-read before old mid lead b.got r none in
-    Turns-behind before held old mid lead after told now (waits head) result r b none says
+    TakesRequest-behind before held old mid lead after told now (waits head) result r b none says
     (MayTell-due p (waits head) (λ waiting.
     AwaitsBody-head p lead.at (lead.buffer ++ b.got) count head s
     (IsEnd-append max_head lead.buffer b.got count ends)

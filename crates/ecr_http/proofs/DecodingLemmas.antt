@@ -8,6 +8,7 @@ use Rattle.httparse.specs.Spans.{IsChunkLineAt}
 use Rattle.httparse.proofs.ChunkLemmas.{chunk_line_unique}
 use Rattle.ecr_model.specs.declared.http.Framing.TheVariants.{Chunked}
 use Rattle.ecr_model.specs.http.Framing.{ends_empty, IsEnd, HasNoEnd, EndsAt}
+use Rattle.ecr_model.specs.declared.http.Section.TheVariants as sections
 use Rattle.ecr_model.specs.http.Fronts.{Lack, bad, too_long, open_, lacks, complete}
 use Rattle.ecr_model.specs.http.Stream.{IsBody}
 use Rattle.ecr_model.specs.http.Chunks.{max_chunk_line, max_trailers, line_end, Says, Part, chunk, lacking, if_crlf, Progress, begun, with_more, past_chunk, Comes, Chunks, IsPart, IsChunked}
@@ -172,11 +173,11 @@ pub Line-over : (limit : ℕ) (before : Option (List ℕ)) (old : Intake) (after
     (body : List ℕ)
     (place size : ℕ) → line_end now.buffer ≡ Some place → Says (take (suc place) now.buffer) (Some size) → 0 < size
     → limit < length body + size → Decodes limit before old after now body stages.Line
-    → LacksBody limit Chunked before old after now (faults.TooLong limit)
+    → LacksBody limit Chunked before old after now (faults.TooLong sections.Body limit)
 Line-over limit before old after now body place size ends says some over d = record {
   come = d.come;
-  cause = found_lack limit before old after now body stages.Line (too_long limit) d
-      (line_part limit d.progress body now.buffer (lacking (too_long limit)) d.stands
+  cause = found_lack limit before old after now body stages.Line (too_long sections.Body limit) d
+      (line_part limit d.progress body now.buffer (lacking (too_long sections.Body limit)) d.stands
       (λ so_far same. IsPart-over limit so_far now.buffer place size ends says some (omega arith)));
 }
 
@@ -428,10 +429,10 @@ pub Trailers-long : (limit : ℕ) (before : Option (List ℕ)) (old : Intake) (a
     (body : List ℕ)
     (scanned : ℕ) → EndsAt (1 + max_trailers) now.buffer None → max_trailers < length now.buffer
     → Decodes limit before old after now body (stages.Trailers scanned)
-    → LacksBody limit Chunked before old after now (faults.TooLong max_trailers)
+    → LacksBody limit Chunked before old after now (faults.TooLong sections.Trailers max_trailers)
 Trailers-long limit before old after now body scanned none long d = record {
   come = d.come;
-  cause = found_lack limit before old after now body (stages.Trailers scanned) (too_long max_trailers) d
+  cause = found_lack limit before old after now body (stages.Trailers scanned) (too_long sections.Trailers max_trailers) d
       (IsPart-long_trailers limit
       (length d.progress.body) d.progress.ahead d.stands.place d.stands.line.ends d.stands.line.says
       (none_ends limit d.progress body now.buffer scanned d.stands none)

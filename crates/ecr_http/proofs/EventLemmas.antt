@@ -12,7 +12,7 @@ use Rattle.ecr_model.specs.sessions.Sessions.{max_read}
 use Rattle.ecr_model.specs.http.Stream.{blank_length, bad, too_long, open_, whole, short, IsFront, Point, grown, AwaitsBody, ended, truncated, bad_at, long_at, more}
 use Rattle.ecr_model.proofs.lemmas.http.FrontLemmas.{IsFront-nil, IsFront-unique}
 use Rattle.ecr_model.proofs.lemmas.http.StreamLemmas.{blank_length-le}
-use Rattle.ecr_http.specs.Events.{closes_after, point_of, Fronts, Behind, event_of, Turns}
+use Rattle.ecr_http.specs.Events.{closes_after, point_of, Fronts, Behind, event_of, TakesRequest}
 use Rattle.ecr_http.specs.Leads.{IsReady, IsRead, LacksRequest}
 use Rattle.ecr_http.specs.Sends.{Sends}
 use Rattle.ecr_http.specs.declared.write.Sent.TheVariants.{WriteFault}
@@ -105,10 +105,10 @@ GivesEvent-fronts p at bytes now left held told due (Err faults.Bad) s total spe
       (ap (λ (k : ℕ). Some (record { due = due; ending = bad_at k })) (sym f.1)),
   says,
 )
-GivesEvent-fronts p at bytes now left held told due (Err (faults.TooLong limit)) s total spent says may f = (
+GivesEvent-fronts p at bytes now left held told due (Err (faults.TooLong section limit)) s total spent says may f = (
   due,
-  Lacks-front false p at bytes (short due (too_long limit)) (record { due = due; ending = long_at now.at limit }) s f.0
-      (ap (λ (k : ℕ). Some (record { due = due; ending = long_at k limit })) (sym f.1)),
+  Lacks-front false p at bytes (short due (too_long section limit)) (record { due = due; ending = long_at now.at section limit }) s f.0
+      (ap (λ (k : ℕ). Some (record { due = due; ending = long_at k section limit })) (sym f.1)),
   says,
 )
 
@@ -129,7 +129,7 @@ HasReadsLeft-fronts at bytes now left due size (Err faults.WriteFault) total f =
 HasReadsLeft-fronts at bytes now left due size (Err faults.Spent) total f = tt
 HasReadsLeft-fronts at bytes now left due size (Err faults.Mem) total f = tt
 HasReadsLeft-fronts at bytes now left due size (Err faults.Bad) total f = tt
-HasReadsLeft-fronts at bytes now left due size (Err (faults.TooLong limit)) total f = tt
+HasReadsLeft-fronts at bytes now left due size (Err (faults.TooLong section limit)) total f = tt
 
 -- after a fault the reader isn't used again
 pub IsReady-after : (now : Intake) (result : Result Request Fault) → OnOk result (IsReady now)
@@ -146,7 +146,7 @@ IsReady-after now (Err faults.WriteFault) ready stays = absurd (cc)
 IsReady-after now (Err faults.Spent) ready stays = absurd (cc)
 IsReady-after now (Err faults.Mem) ready stays = absurd (cc)
 IsReady-after now (Err faults.Bad) ready stays = absurd (cc)
-IsReady-after now (Err (faults.TooLong limit)) ready stays = absurd (cc)
+IsReady-after now (Err (faults.TooLong section limit)) ready stays = absurd (cc)
 
 -- the event is `ReadFault` for that fault alone
 pub event_of-ReadFault : (now : Intake) (result : Result Request Fault) → event_of now result ≡ events.ReadFault
@@ -162,7 +162,7 @@ event_of-ReadFault now (Err faults.WriteFault) is = absurd (cc)
 event_of-ReadFault now (Err faults.Spent) is = absurd (cc)
 event_of-ReadFault now (Err faults.Mem) is = absurd (cc)
 event_of-ReadFault now (Err faults.Bad) is = absurd (cc)
-event_of-ReadFault now (Err (faults.TooLong limit)) is = absurd (cc)
+event_of-ReadFault now (Err (faults.TooLong section limit)) is = absurd (cc)
 
 -- the event is `WriteFault` for that fault alone
 pub event_of-WriteFault : (now : Intake) (result : Result Request Fault) → event_of now result ≡ events.WriteFault
@@ -178,7 +178,7 @@ event_of-WriteFault now (Err faults.WriteFault) is = refl
 event_of-WriteFault now (Err faults.Spent) is = absurd (cc)
 event_of-WriteFault now (Err faults.Mem) is = absurd (cc)
 event_of-WriteFault now (Err faults.Bad) is = absurd (cc)
-event_of-WriteFault now (Err (faults.TooLong limit)) is = absurd (cc)
+event_of-WriteFault now (Err (faults.TooLong section limit)) is = absurd (cc)
 
 -- ---- a call of the reader
 
@@ -203,13 +203,13 @@ total_behind before old mid lead after now due result r b =
     omega (arith, length-append old.buffer r.got, length-append old.buffer (r.got ++ b.got), length-append r.got b.got)
 
 -- the blank bytes were passed, and what stands behind them was taken
-pub Turns-behind : (before held : Option (List ℕ)) (old : Intake) (mid : Option (List ℕ)) (lead : Intake)
+pub TakesRequest-behind : (before held : Option (List ℕ)) (old : Intake) (mid : Option (List ℕ)) (lead : Intake)
     (after told : Option (List ℕ)) (now : Intake) (due : Bool) (result : Result Request Fault)
     → (r : IsRead before old mid lead) → (b : Behind mid lead after now due result)
     → blank_length (lead.buffer ++ b.got) ≡ 0 → Appends held told (interim due)
     → MayTell (grown (point_of old false) (r.got ++ b.got)) (interim due)
-    → Turns before held old after told now result
-Turns-behind before held old mid lead after told now due result r b none says may =
+    → TakesRequest before held old after told now result
+TakesRequest-behind before held old mid lead after told now due result r b none says may =
     let p = grown (point_of old false) (r.got ++ b.got) in
     let total : now.total ≡ bytes_read p = total_behind before old mid lead after now due result r b in
     record {
@@ -234,26 +234,26 @@ Behind-now left lead now due result total spent fronts = record {
 }
 
 -- no request is at the front of the buffer, by a fault
-pub Turns-fault : (before held : Option (List ℕ)) (old : Intake) (left : Option (List ℕ)) (now : Intake)
+pub TakesRequest-fault : (before held : Option (List ℕ)) (old : Intake) (left : Option (List ℕ)) (now : Intake)
     (fault : Fault)
     → IsRead before old left now → blank_length now.buffer ≡ 0
     → LacksRequest now.at now.buffer false left now.total fault
-    → Turns before held old left held now (Err fault)
+    → TakesRequest before held old left held now (Err fault)
 unfolding interim
-Turns-fault before held old left now fault r none lacks_ =
-    Turns-behind before held old left now left held now false (Err fault) r
+TakesRequest-fault before held old left now fault r none lacks_ =
+    TakesRequest-behind before held old left now left held now false (Err fault) r
     (Behind-now left now now false (Err fault) refl r.ready.spent (lacks_, refl))
     (ap blank_length (append-nil now.buffer) ∙ none) (Appends-nil held) (inl refl)
 
 -- the 100 wasn't written whole
-pub Turns-untold : (before held told : Option (List ℕ)) (old : Intake) (left : Option (List ℕ)) (now : Intake)
+pub TakesRequest-untold : (before held told : Option (List ℕ)) (old : Intake) (left : Option (List ℕ)) (now : Intake)
     (count : ℕ) (head : Head)
     → IsRead before old left now → blank_length now.buffer ≡ 0
     → IsEnd max_head now.buffer count → Parses (take count now.buffer) (Some head) → waits head ≡ true
     → Sends held told (interim (waits head)) WriteFault
-    → Turns before held old left told now (Err faults.WriteFault)
+    → TakesRequest before held old left told now (Err faults.WriteFault)
 unfolding interim
-Turns-untold before held told old left now count head r no_blank ends parses waiting sends =
+TakesRequest-untold before held told old left now count head r no_blank ends parses waiting sends =
     let none : blank_length (now.buffer ++ []) ≡ 0 = ap blank_length (append-nil now.buffer) ∙ no_blank in
     let s : Settled (grown (point_of old false) (r.got ++ [])) now.at (now.buffer ++ []) =
     Settled-read before old left now [] r none in

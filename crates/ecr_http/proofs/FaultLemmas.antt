@@ -14,7 +14,7 @@ IsFault-weaker P Q left total faults.WriteFault on f = f
 IsFault-weaker P Q left total faults.Spent on f = (on open_ f.0, f.1)
 IsFault-weaker P Q left total faults.Mem on f = tt
 IsFault-weaker P Q left total faults.Bad on f = on bad f
-IsFault-weaker P Q left total (faults.TooLong limit) on f = on (too_long limit) f
+IsFault-weaker P Q left total (faults.TooLong section limit) on f = on (too_long section limit) f
 
 -- a read failed where more bytes are needed
 pub IsFault-open : (Q : Lack → Type 0) (left : Option (List ℕ)) (total : ℕ) (fault : Fault)

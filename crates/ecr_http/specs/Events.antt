@@ -21,7 +21,7 @@ closes_after (events.Request request) = closes request
 closes_after events.End = true
 closes_after (events.Truncated at) = true
 closes_after (events.Bad at) = true
-closes_after (events.TooLong at limit) = true
+closes_after (events.TooLong at section limit) = true
 closes_after events.ReadFault = true
 closes_after events.WriteFault = true
 closes_after events.Spent = true
@@ -40,7 +40,7 @@ event_of now (Err faults.WriteFault) = events.WriteFault
 event_of now (Err faults.Spent) = events.Spent
 event_of now (Err faults.Mem) = events.Mem
 event_of now (Err faults.Bad) = events.Bad now.at
-event_of now (Err (faults.TooLong limit)) = events.TooLong now.at limit
+event_of now (Err (faults.TooLong section limit)) = events.TooLong now.at section limit
 
 -- the request that stands at the front was used, or there is a fault in its place; the flag says whether a 100 was due
 abbrev pub Fronts : ℕ → List ℕ → Intake → Option (List ℕ) → Bool → Result Request Fault → Type 0
@@ -67,8 +67,8 @@ pub record Behind (before : Option (List ℕ)) (old : Intake) (after : Option (L
   pub fronts : Fronts old.at (old.buffer ++ got) now after due result
 
 -- what a call of a reader takes, tells and gives, by the request that comes next or the fault in its place
-abbrev pub Turns : Option (List ℕ) → Option (List ℕ) → Intake → Option (List ℕ) → Option (List ℕ) → Intake
+abbrev pub TakesRequest : Option (List ℕ) → Option (List ℕ) → Intake → Option (List ℕ) → Option (List ℕ) → Intake
     → Result Request Fault → Type 0
-Turns before held old after told now result =
+TakesRequest before held old after told now result =
     Nexts before held (point_of old false) after told (point_of now (closes_after (event_of now result)))
     (event_of now result)

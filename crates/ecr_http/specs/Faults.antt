@@ -15,7 +15,7 @@ IsFault P left total faults.WriteFault = ⊥
 IsFault P left total faults.Spent = P open_ × (max_read ≤ total)
 IsFault P left total faults.Mem = ⊤
 IsFault P left total faults.Bad = P bad
-IsFault P left total (faults.TooLong limit) = P (too_long limit)
+IsFault P left total (faults.TooLong section limit) = P (too_long section limit)
 
 -- more bytes are needed
 abbrev pub IsOpen : Lack → Type 0

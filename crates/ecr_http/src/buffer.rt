@@ -35,7 +35,7 @@ impl Model for Buffer {
 impl Buffer {
     /// No bytes.
     pub fn new(alloc: Global) -> Buffer
-        ensures { result ≡ [] }
+        ensures empty { result ≡ [] }
     {
         Buffer {
             room: Vec::new(alloc),
@@ -46,22 +46,22 @@ impl Buffer {
 
     /// The bytes that are left.
     pub fn as_slice(&self) -> &[u8]
-        ensures { result.now ≡ self.now }
+        ensures bytes { result.now ≡ self.now }
     {
         &self.room[self.start..self.end]
     }
 
     /// How many bytes are left.
     pub fn len(&self) -> usize
-        ensures { result ≡ length self.now }
+        ensures length { result ≡ length self.now }
     {
         self.end - self.start
     }
 
     /// Drops the first `count` bytes.
     pub fn skip(&mut self, count: usize)
-        requires { count ≤ length self.old }
-        ensures { self.new ≡ drop count self.old }
+        requires within { count ≤ length self.old }
+        ensures rest { self.new ≡ drop count self.old }
     {
         self.start += count;
     }

@@ -12,7 +12,7 @@ pub(crate) const MAX_CHUNK_LINE: usize = 1_024;
 /// The place of the first LF, if a chunk's line that ends there is within the limit.
 #[tactic(auto, unfolding(ecr_model::specs::http::Chunks::max_chunk_line))]
 pub(crate) fn line_end(bytes: &[u8]) -> Option<usize>
-    ensures { result ≡ line_end bytes.now }
+    ensures place { result ≡ line_end bytes.now }
 {
     let end = line_size(bytes);
     if end < bytes.len() && end < MAX_CHUNK_LINE {
@@ -31,7 +31,7 @@ fn line_size(bytes: &[u8]) -> usize
 
 /// The chunk-size that a line says, or `None` where it is the line of no chunk.
 pub(crate) fn size_of(line: &[u8]) -> Option<u64>
-    ensures { Says line.now result }
+    ensures size { Says line.now result }
 {
     match parse_chunk_size(line) {
         Ok(Status::Complete((len, size))) => { if len == line.len() { Some(size) } else { None } }

@@ -6,6 +6,7 @@ use crate::chunk_line::{MAX_CHUNK_LINE, is_closed, line_end, size_of};
 use crate::fault::Fault;
 use crate::head::find_end_within;
 use crate::intake::Intake;
+use ecr_model::Section;
 use ecr_outside::Source;
 use std::alloc::Global;
 
@@ -153,7 +154,7 @@ impl Intake {
             }
             Some(size) => {
                 if size > limit.saturating_sub(so_far as u64) {
-                    return Err(Fault::TooLong(limit));
+                    return Err(Fault::TooLong(Section::Body, limit));
                 }
                 self.buffer.skip(place + 1);
                 Ok(Some(Stage::Data(size)))
@@ -252,7 +253,7 @@ impl Intake {
         ensures cause { result ≡ Err Fault.ReadFault → S.faults source.old < S.faults source.new }
     {
         if self.buffer.len() > MAX_TRAILERS {
-            return Err(Fault::TooLong(MAX_TRAILERS as u64));
+            return Err(Fault::TooLong(Section::Trailers, MAX_TRAILERS as u64));
         }
         let scanned = self.buffer.len();
         self.read_on(source, Stage::Trailers(scanned))

@@ -1,6 +1,6 @@
 // Replies without a body (RFC 9112, section 6.3).
 ghost use Rattle.std.specs.Prelude.{◌≡◌, IfOk};
-ghost use Rattle.ecr_http.specs.Replies.{reply_bytes};
+ghost use Rattle.ecr_http.specs.Replies.{message_bytes};
 ghost use Rattle.ecr_model.specs.http.Replies.{connection_line, empty_reply};
 
 use crate::reply::HttpReply;
@@ -12,7 +12,7 @@ const HEAD_ROOM: usize = 128;
 
 /// A reply of that status without a body, such as `404 Not Found`; it says `close` where the session closes after it.
 pub fn write_empty(alloc: Global, close: bool, status: &str) -> Result<HttpReply, Mem>
-    ensures { IfOk result (λ r. reply_bytes r ≡ empty_reply close status.now) }
+    ensures bytes { IfOk result (λ r. message_bytes r ≡ empty_reply close status.now) }
 {
     let head = write_head(alloc, close, status)?;
     Ok(HttpReply {
@@ -40,7 +40,7 @@ fn write_head(alloc: Global, close: bool, status: &str) -> Result<Vec<u8>, Mem>
 
 /// The header of a reply after which the session closes (RFC 9112, section 9.6); of another reply, no bytes.
 pub fn connection_line(close: bool) -> &'static [u8]
-    ensures { result.now ≡ connection_line close }
+    ensures line { result.now ≡ connection_line close }
 {
     if close { b"Connection: close\r\n" } else { b"" }
 }

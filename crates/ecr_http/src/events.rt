@@ -1,6 +1,6 @@
 // What comes next of a source.
 use crate::framing::closes;
-use ecr_model::Request;
+use ecr_model::{Request, Section};
 
 /// What comes next of a source. Places count the bytes before them.
 #[derive(Drop)]
@@ -13,8 +13,12 @@ pub enum Event {
     Truncated(u64),
     /// What stands at this place is no request that is served.
     Bad(u64),
-    /// What stands at this place has more bytes than the limit allows.
-    TooLong { at: u64, limit: u64 },
+    /// The section of what stands at this place has more bytes than the limit allows.
+    TooLong {
+        at: u64,
+        section: Section,
+        limit: u64,
+    },
     /// The source failed.
     ReadFault,
     /// The sink failed while the client was told to go on.
@@ -31,7 +35,7 @@ impl Event {
 
     // Whether nothing comes after it.
     pub(crate) fn closes(&self) -> bool
-        ensures { result ≡ closes_after self.now }
+        ensures closes { result ≡ closes_after self.now }
     {
         match self {
             Event::Request(request) => closes(request),

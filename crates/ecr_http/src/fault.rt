@@ -2,7 +2,7 @@
 ghost use Rattle.std.specs.Prelude.{◌≡◌};
 ghost use Rattle.ecr_http.specs.declared.fault.Fault.TheVariants as faults;
 
-use ecr_model::Mem;
+use ecr_model::{Mem, Section};
 
 /// Why no request is taken of the bytes that come.
 #[derive(Clone, Copy)]
@@ -19,8 +19,8 @@ pub enum Fault {
     Mem,
     /// No request that is served stands there.
     Bad,
-    /// There are more bytes than that limit allows.
-    TooLong(u64),
+    /// The section has more bytes than that limit allows.
+    TooLong(Section, u64),
 }
 
 impl From<Mem> for Fault {

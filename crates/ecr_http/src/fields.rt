@@ -8,7 +8,7 @@ use ecr_model::Fields;
 
 /// Whether the first field of the name has the value, letter case aside.
 pub(crate) fn first_says(fields: &Fields, name: &[u8], text: &[u8]) -> bool
-    ensures { result ≡ first_says name.now text.now fields.now }
+    ensures says { result ≡ first_says name.now text.now fields.now }
 {
     match fields.first_value(name) {
         Some(value) => value.eq_ignore_ascii_case(text),
@@ -19,7 +19,7 @@ pub(crate) fn first_says(fields: &Fields, name: &[u8], text: &[u8]) -> bool
 /// Whether a word of the list is `close`.
 #[tactic(auto, unfolding(ecr_model::specs::http::Fields::has_close))]
 pub(crate) fn has_close(text: &[u8]) -> bool
-    ensures { result ≡ has_close text.now }
+    ensures close { result ≡ has_close text.now }
 {
     begins_close(text) || has_later_close(text)
 }

@@ -24,7 +24,7 @@ const MAX_DIGITS: usize = 18;
 /// How the body is delimited, or `None` where the head says it badly.
 #[tactic(auto, unfolding(ecr_model::specs::http::Framing::framing_of))]
 pub(crate) fn framing_of(head: &Head) -> Option<Framing>
-    ensures { result ≡ framing_of head.now }
+    ensures framing { result ≡ framing_of head.now }
 {
     if has_its_host(head) {
         delimited_by(&head.fields)
@@ -67,7 +67,7 @@ fn has_its_host(head: &Head) -> bool
 /// Whether the client waits for a 100 before it sends the body (RFC 9110, section 10.1.1).
 #[tactic(auto, unfolding(ecr_model::specs::http::Framing::waits))]
 pub(crate) fn waits(head: &Head) -> bool
-    ensures { result ≡ waits head.now }
+    ensures waits { result ≡ waits head.now }
 {
     head.minor == 1 && first_says(&head.fields, b"expect", b"100-continue") && has_body(head)
 }
@@ -94,7 +94,7 @@ fn is_sent(limit: u64, framing: Framing) -> bool
 
 /// Whether a body that is delimited like that can be within the limit.
 pub(crate) fn fits_limit(framing: Framing, limit: u64) -> bool
-    ensures { IsTrue result ↔ FitsLimit framing limit }
+    ensures fits { IsTrue result ↔ FitsLimit framing limit }
 {
     match framing {
         Framing::Sized(size) => size <= limit,
@@ -105,7 +105,7 @@ pub(crate) fn fits_limit(framing: Framing, limit: u64) -> bool
 /// Whether the session closes after the reply to the request (RFC 9112, section 9.6).
 #[tactic(auto, unfolding(ecr_model::specs::http::Framing::says_close))]
 pub fn closes(request: &Request) -> bool
-    ensures { result ≡ closes request.now }
+    ensures closes { result ≡ closes request.now }
 {
     request.minor == 0 || says_close(request.fields.first_value(b"connection"))
 }
@@ -121,7 +121,7 @@ fn says_close(words: Option<&[u8]>) -> bool
 
 /// The path of a target: what stands before the first `?`.
 pub fn path_of(target: &[u8]) -> &[u8]
-    ensures { result.now ≡ path_of target.now }
+    ensures path { result.now ≡ path_of target.now }
 {
     for (at, byte) in target.iter().enumerate() {
         if *byte == b'?' {

@@ -30,7 +30,7 @@ fn ends_empty(bytes: &[u8], n: usize) -> bool
 pub(crate) fn find_end(bytes: &[u8], from: usize) -> Option<usize>
     requires within { from ≤ length bytes.now }
     requires known { HasNoEnd bytes.now from }
-    ensures { EndsAt max_head bytes.now result }
+    ensures end { EndsAt max_head bytes.now result }
 {
     find_end_within(bytes, from, MAX_HEAD)
 }
@@ -40,7 +40,7 @@ pub(crate) fn find_end(bytes: &[u8], from: usize) -> Option<usize>
 pub(crate) fn find_end_within(bytes: &[u8], from: usize, limit: usize) -> Option<usize>
     requires within { from ≤ length bytes.now }
     requires known { HasNoEnd bytes.now from }
-    ensures { EndsAt limit bytes.now result }
+    ensures end { EndsAt limit bytes.now result }
 {
     let last = bytes.len().min(limit);
     let mut looked = from;
@@ -106,7 +106,7 @@ fn head_from(
 /// Reads these bytes as a head, which they must be as a whole; none, if they aren't one. The fields take room for as many
 /// as there are lines.
 pub(crate) fn parse_head(alloc: Global, bytes: &[u8]) -> Result<Option<Head>, Mem>
-    ensures { IfOk result (λ head. Parses bytes.now head) }
+    ensures parses { IfOk result (λ head. Parses bytes.now head) }
 {
     let mut places = vec![in alloc; EMPTY_HEADER_SPAN; count_lines(bytes)]?;
     match parse_request(bytes, &mut places) {

@@ -6,7 +6,7 @@ ghost use Rattle.ecr_model.specs.http.Stream.{is_blank, blank_length};
 use crate::fault::Fault;
 use crate::head::{MAX_HEAD, find_end, parse_head};
 use crate::intake::Intake;
-use ecr_model::Head;
+use ecr_model::{Head, Section};
 use ecr_outside::Source;
 use std::alloc::Global;
 
@@ -42,7 +42,7 @@ impl Intake {
         ensures cause { result ≡ Err Fault.ReadFault → S.faults source.old < S.faults source.new }
     {
         if self.buffer.len() >= MAX_HEAD {
-            return Err(Fault::TooLong(MAX_HEAD as u64));
+            return Err(Fault::TooLong(Section::Head, MAX_HEAD as u64));
         }
         self.scanned = self.buffer.len();
         self.fill(source)

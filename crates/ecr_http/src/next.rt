@@ -12,7 +12,7 @@ use crate::fault::Fault;
 use crate::framing::{fits_limit, framing_of, max_body, waits};
 use crate::intake::Intake;
 use crate::write::{Sent, send};
-use ecr_model::{Framing, Head, Request, Text};
+use ecr_model::{Framing, Head, Request, Section, Text};
 use ecr_outside::{Sink, Source};
 use std::alloc::Global;
 
@@ -20,7 +20,7 @@ impl Intake {
     ghost use Rattle.std.specs.Prelude.{[], false};
     ghost use Rattle.ecr_model.specs.http.Stream.{blank_length, start};
     ghost use Rattle.ecr_http.specs.Bodies.{FitsLimit};
-    ghost use Rattle.ecr_http.specs.Events.{HasHead, Behind, Turns, closes_after, event_of, point_of};
+    ghost use Rattle.ecr_http.specs.Events.{HasHead, Behind, TakesRequest, closes_after, event_of, point_of};
     ghost use Rattle.ecr_http.specs.Leads.{IsReady, IsRead};
     ghost use Rattle.ecr_http.specs.Reading.{Nexts};
 
@@ -76,7 +76,11 @@ impl Intake {
             Err(Fault::Spent) => Event::Spent,
             Err(Fault::Mem) => Event::Mem,
             Err(Fault::Bad) => Event::Bad(self.at),
-            Err(Fault::TooLong(limit)) => Event::TooLong { at: self.at, limit },
+            Err(Fault::TooLong(section, limit)) => Event::TooLong {
+                at: self.at,
+                section,
+                limit,
+            },
         }
     }
 
@@ -88,7 +92,7 @@ impl Intake {
         sink: &mut K,
     ) -> Result<Request, Fault>
         requires ready { IsReady self.old }
-        ensures next { Turns (S.left source.old) (K.held sink.old) self.old (S.left source.new) (K.held sink.new) self.new
+        ensures next { TakesRequest (S.left source.old) (K.held sink.old) self.old (S.left source.new) (K.held sink.new) self.new
             result }
         ensures ready { OnOk result (IsReady self.new) }
         ensures reads_later { S.faults source.old ≤ S.faults source.new }
@@ -115,7 +119,7 @@ impl Intake {
         requires parses { Parses (take count self.old.buffer) (Some head) }
         ensures next { (before : Option (List ℕ)) (old : Intake)
             → IsRead before old (S.left source.old) self.old → blank_length self.old.buffer ≡ 0
-            → Turns before (K.held sink.old) old (S.left source.new) (K.held sink.new) self.new result }
+            → TakesRequest before (K.held sink.old) old (S.left source.new) (K.held sink.new) self.new result }
         ensures ready { OnOk result (IsReady self.new) }
         ensures reads_later { S.faults source.old ≤ S.faults source.new }
         ensures writes_later { K.faults sink.old ≤ K.faults sink.new }
@@ -127,7 +131,7 @@ impl Intake {
         };
         let limit = max_body(head.target.as_bytes());
         if !fits_limit(framing, limit) {
-            return Err(Fault::TooLong(limit));
+            return Err(Fault::TooLong(Section::Body, limit));
         }
         match tell(&head, sink) {
             Sent::WriteFault => Err(Fault::WriteFault),

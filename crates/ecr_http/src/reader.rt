@@ -38,7 +38,7 @@ impl Reader {
 
     /// A reader that has read nothing.
     pub fn new(alloc: Global) -> Result<Reader, Mem>
-        ensures { IfOk result (λ r. r ≡ start []) }
+        ensures start { IfOk result (λ r. r ≡ start []) }
     {
         Ok(Reader {
             intake: Intake::new(alloc),
@@ -51,7 +51,7 @@ impl Reader {
     ///
     /// What a body takes grows with what came of it, and not with what its length promised.
     pub fn next<S: Source, K: Sink>(&mut self, alloc: Global, source: &mut S, sink: &mut K) -> Event
-        requires { self.old.closed ≡ false }
+        requires opened { self.old.closed ≡ false }
         ensures next { Nexts (S.left source.old) (K.held sink.old) self.old (S.left source.new)
             (K.held sink.new) self.new result }
         ensures reads_later { S.faults source.old ≤ S.faults source.new }

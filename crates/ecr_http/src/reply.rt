@@ -21,12 +21,12 @@ pub struct HttpReply {
 
 impl Reader {
     ghost use Rattle.std.specs.Prelude.{◌≡◌, ◌<◌, ◌≤◌};
-    ghost use Rattle.ecr_http.specs.Replies.{reply_bytes};
+    ghost use Rattle.ecr_http.specs.Replies.{message_bytes};
     ghost use Rattle.ecr_http.specs.Sends.{Sends};
 
     /// Writes a reply, unless the sink fails. It takes no memory.
     pub fn send<K: Sink>(&mut self, sink: &mut K, reply: &HttpReply) -> Sent
-        ensures sends { Sends (K.held sink.old) (K.held sink.new) (reply_bytes reply.now) result }
+        ensures sends { Sends (K.held sink.old) (K.held sink.new) (message_bytes reply.now) result }
         ensures kept { self.new ≡ self.old }
         ensures later { K.faults sink.old ≤ K.faults sink.new }
         ensures cause { result ≡ Sent.WriteFault → K.faults sink.old < K.faults sink.new }

@@ -22,6 +22,17 @@ pub enum Framing {
     Chunked,
 }
 
+/// A section of a request, which has a limit of its own (RFC 9112, sections 2.1 and 7.1.2).
+#[derive(Clone, Copy)]
+pub enum Section {
+    /// The request line and the header section.
+    Head,
+    /// The body.
+    Body,
+    /// The trailer section of a body that comes in chunks.
+    Trailers,
+}
+
 /// A whole request.
 #[derive(Drop)]
 pub struct Request {

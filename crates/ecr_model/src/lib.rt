@@ -14,6 +14,7 @@ mod values;
 pub use http::Framing;
 pub use http::Head;
 pub use http::Request;
+pub use http::Section;
 pub use http::fields::Fields;
 pub use laws::a_chunked_body_is_read;
 pub use laws::a_creation_is_kept;

@@ -5,6 +5,7 @@ use Rattle.std.specs.Io.KnownBytes.{Consumes, Appends, IsAtEnd}
 use Rattle.ecr_model.specs.declared.http.Request.{Request}
 use Rattle.ecr_model.specs.declared.outcome.End.{End}
 use Rattle.ecr_model.specs.declared.outcome.End.TheVariants as ends
+use Rattle.ecr_model.specs.declared.http.Section.{Section}
 use Rattle.ecr_model.specs.http.Replies.{bad_reply, long_reply, continue_reply, interim}
 use Rattle.ecr_desk.specs.Desks.{DeskState}
 use Rattle.ecr_model.specs.sessions.Sessions.{Account, Outside, SettingOf, Exchange, Chain, CompletedBy, CutOffBy, Ends, IsUnspent, ServicedBy, last_words, max_read, refusal_of, requests_of, sent_to, stands}
@@ -91,7 +92,7 @@ ends_silently : (set : SettingOf DeskState) (before mid after : Outside) (point 
     (last : DeskState) (s : SoFar set before mid point account last)
     (got : List ℕ) (over : Bool) (ending : Ending) (end : End) → point.closed ≡ false → after.told ≡ mid.told
     → Consumes mid.left after.left got
-    → reading.Shows over (grown point got) mid.held after.held ending → refusal_of ending ≡ []
+    → reading.EndsAs over (grown point got) mid.held after.held ending → refusal_of ending ≡ []
     → (over ≡ true → IsAtEnd after.left) → Ends end ending (length (s.read ++ got))
     → bytes_read (grown point got) ≤ max_read → IsUnspent end ending (length (s.read ++ got))
     → CompletedBy IsServedOver set before after account last end
@@ -218,7 +219,7 @@ refused : (set : SettingOf DeskState) (before mid between after : Outside) (poin
     (last : DeskState) (s : SoFar set before mid point account last)
     (got : List ℕ) (ending : Ending) (expected end : End) → point.closed ≡ false → Consumes mid.left after.left got
     → after.told ≡ mid.told
-    → reading.Shows false (grown point got) mid.held between.held ending
+    → reading.EndsAs false (grown point got) mid.held between.held ending
     → SendsLast between.held after.held (refusal_of ending) expected end
     → Ends expected ending (length (s.read ++ got)) → bytes_read (grown point got) ≤ max_read
     → IsUnspent expected ending (length (s.read ++ got))
@@ -299,18 +300,19 @@ Serves-bad set before mid between after point q account last at end s opened n l
     (subst (λ l. Consumes mid.left l n.got) (sym left) n.consumed) told n.gives sends refl n.within tt)
 
 pub Serves-long : (set : SettingOf DeskState) (before mid between after : Outside) (point q : Point)
-    (account : Account) (last : DeskState) (at limit : ℕ) (end : End) → SoFar set before mid point account last
-    → point.closed ≡ false → Nexts mid.left mid.held point between.left between.held q (events.TooLong at limit)
+    (account : Account) (last : DeskState) (at : ℕ) (section : Section) (limit : ℕ) (end : End)
+    → SoFar set before mid point account last
+    → point.closed ≡ false → Nexts mid.left mid.held point between.left between.held q (events.TooLong at section limit)
     → after.left ≡ between.left → after.told ≡ mid.told
-    → SendsLast between.held after.held (long_reply limit) (ends.TooLong at limit) end
+    → SendsLast between.held after.held (long_reply section) (ends.TooLong at limit) end
     → mid.write_faults ≤ between.write_faults → (end ≡ ends.WriteFault → between.write_faults < after.write_faults)
     → ServesOver set before after account last end
-Serves-long set before mid between after point q account last at limit end s opened n left told sends later cause =
+Serves-long set before mid between after point q account last at section limit end s opened n left told sends later cause =
     let so_far = s.writes_later in
     serves_refused set before between after account last (ends.TooLong at limit) end (λ done. done) (omega arith) cause
-    (refused set before mid between after point account last s n.got (long_at at limit)
+    (refused set before mid between after point account last s n.got (long_at at section limit)
     (ends.TooLong at limit) end opened
-    (subst (λ l. Consumes mid.left l n.got) (sym left) n.consumed) told n.gives sends refl n.within tt)
+    (subst (λ l. Consumes mid.left l n.got) (sym left) n.consumed) told n.gives sends (section, refl) n.within tt)
 
 -- ---- the last request closes the session
 

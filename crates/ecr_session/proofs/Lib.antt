@@ -2,7 +2,6 @@ pub mod AnswerLemmas
 pub mod AskLemmas
 pub mod EndLemmas
 pub mod FreshLemmas
-pub mod FixedLemmas
 pub mod HostLemmas
 pub mod ServingLemmas
 pub mod StartLemmas

@@ -2,10 +2,7 @@
 ghost use Rattle.std.specs.Prelude.{◌≡◌};
 ghost use Rattle.ecr_model.specs.http.Replies.{bad_reply, is_head, long_reply};
 
-use ecr_model::Request;
-
-/// The greatest length of a head (of this registry).
-const MAX_HEAD: u64 = 65_536;
+use ecr_model::{Request, Section};
 
 /// Whether the request is one of HEAD, whose reply has no body (RFC 9110, section 9.3.2).
 pub(crate) fn is_head(request: &Request) -> bool
@@ -23,17 +20,20 @@ pub(crate) fn bad_reply() -> &'static [u8]
       Content-Length: 0\r\n\r\n"
 }
 
-/// The reply to more bytes than that limit allows: the limit of a head, or that of a body.
-pub(crate) fn long_reply(limit: u64) -> &'static [u8]
-    ensures { result.now ≡ long_reply limit }
+/// The reply to more bytes than the limit of that section allows.
+pub(crate) fn long_reply(section: Section) -> &'static [u8]
+    ensures { result.now ≡ long_reply section }
 {
-    if limit == MAX_HEAD {
-        b"HTTP/1.1 431 Request Header Fields Too Large\r\n\
-          Connection: close\r\n\
-          Content-Length: 0\r\n\r\n"
-    } else {
-        b"HTTP/1.1 413 Content Too Large\r\n\
-          Connection: close\r\n\
-          Content-Length: 0\r\n\r\n"
+    match section {
+        Section::Head | Section::Trailers => {
+            b"HTTP/1.1 431 Request Header Fields Too Large\r\n\
+              Connection: close\r\n\
+              Content-Length: 0\r\n\r\n"
+        }
+        Section::Body => {
+            b"HTTP/1.1 413 Content Too Large\r\n\
+              Connection: close\r\n\
+              Content-Length: 0\r\n\r\n"
+        }
     }
 }

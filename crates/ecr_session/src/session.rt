@@ -109,8 +109,8 @@ impl Session {
             Event::End => Some(End::Whole),
             Event::Truncated(at) => Some(End::Truncated { at }),
             Event::Bad(at) => Some(self.refuse(sink, bad_reply(), End::Bad { at })),
-            Event::TooLong { at, limit } => {
-                Some(self.refuse(sink, long_reply(limit), End::TooLong { at, limit }))
+            Event::TooLong { at, section, limit } => {
+                Some(self.refuse(sink, long_reply(section), End::TooLong { at, limit }))
             }
             Event::ReadFault => Some(End::ReadFault),
             Event::WriteFault => Some(End::WriteFault),

@@ -2,6 +2,7 @@
 use Rattle.std.specs.Prelude.{◌≡◌, ℕ, zero, suc, ◌+◌, Bool, ◌&&◌, ◌==◌, nat_lt, nat_le, List, [], ◌∷◌, ◌++◌, length, take, drop, Option, Some, None, if◌then◌else◌}
 use Rattle.std.specs.List.{position_or_len}
 use Rattle.httparse.specs.Grammar.{ChunkLine, ReadsChunkLine, chunk_size}
+use Rattle.ecr_model.specs.declared.http.Section.TheVariants as sections
 use Rattle.ecr_model.specs.http.Fronts.{Lack, bad, too_long, open_, BodyFront, complete, lacks}
 use Rattle.ecr_model.specs.http.Framing.{EndsAt}
 
@@ -55,11 +56,11 @@ chunk_of line bytes size = if_crlf (chunk (take size bytes) (line + size + 2)) (
 
 -- the part, where the data of the chunks before and of one of that size is within the limit
 abbrev pub if_within : ℕ → ℕ → ℕ → Part → Part
-if_within limit so_far size part = if nat_le (so_far + size) limit then part else lacking (too_long limit)
+if_within limit so_far size part = if nat_le (so_far + size) limit then part else lacking (too_long sections.Body limit)
 
 -- the last chunk, whose line's LF stands at that place before the trailer section; that LF is the first of the bytes
 abbrev pub last_of : ℕ → List ℕ → Option ℕ → Part
-last_of n bytes None = lacking (if nat_le (length bytes) max_trailers then open_ else too_long max_trailers)
+last_of n bytes None = lacking (if nat_le (length bytes) max_trailers then open_ else too_long sections.Trailers max_trailers)
 last_of n bytes (Some end) = last_chunk (n + end)
 
 -- that front, by a line with its LF at that place

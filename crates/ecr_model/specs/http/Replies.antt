@@ -1,8 +1,9 @@
 -- Replies as bytes (RFC 9112, sections 4 and 6; RFC 9110, sections 9.3.2 and 15). Headers stand in byte order.
-use Rattle.std.specs.Prelude.{ℕ, Bool, List, [], ◌++◌, ◌==◌, codes, decimal, if◌then◌else◌, bytes_eq}
+use Rattle.std.specs.Prelude.{ℕ, Bool, List, [], ◌++◌, codes, decimal, if◌then◌else◌, bytes_eq}
 use Rattle.ecr_model.specs.declared.http.Request.{Request}
+use Rattle.ecr_model.specs.declared.http.Section.{Section}
+use Rattle.ecr_model.specs.declared.http.Section.TheVariants as sections
 use Rattle.ecr_model.specs.names.Texts.{crlf}
-use Rattle.ecr_model.specs.http.Framing.{max_head}
 
 -- the header of a reply after which the session closes
 unfoldable pub connection_line : Bool → List ℕ
@@ -52,7 +53,12 @@ interim due = if due then continue_reply else []
 unfoldable pub bad_reply : List ℕ
 bad_reply = empty_reply Bool.true (codes "400 Bad Request")
 
--- the reply to more bytes than that limit allows: the limit of a head, or that of a body
-unfoldable pub long_reply : ℕ → List ℕ
-long_reply limit = empty_reply Bool.true
-    (if limit == max_head then codes "431 Request Header Fields Too Large" else codes "413 Content Too Large")
+-- the status of a section that has more bytes than its limit allows (RFC 9110, section 15.5.14; RFC 6585, section 5)
+abbrev pub long_status : Section → List ℕ
+long_status sections.Head = codes "431 Request Header Fields Too Large"
+long_status sections.Body = codes "413 Content Too Large"
+long_status sections.Trailers = codes "431 Request Header Fields Too Large"
+
+-- the reply to more bytes than the limit of that section allows
+unfoldable pub long_reply : Section → List ℕ
+long_reply section = empty_reply Bool.true (long_status section)

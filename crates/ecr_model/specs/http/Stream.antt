@@ -5,6 +5,8 @@ use Rattle.ecr_model.specs.declared.http.Head.{Head}
 use Rattle.ecr_model.specs.declared.http.Framing.{Framing}
 use Rattle.ecr_model.specs.declared.http.Framing.TheVariants.{Sized, Chunked}
 use Rattle.ecr_model.specs.declared.http.Request.{Request}
+use Rattle.ecr_model.specs.declared.http.Section.{Section}
+use Rattle.ecr_model.specs.declared.http.Section.TheVariants as sections
 pub use Rattle.ecr_model.specs.http.Fronts.{Lack, bad, too_long, open_, BodyFront, complete, lacks}
 use Rattle.ecr_model.specs.http.Chunks.{IsChunked}
 use Rattle.ecr_model.specs.http.Framing.{max_head, IsEnd, EndsAt, Parses, max_body, framing_of, waits, says_close}
@@ -43,7 +45,7 @@ head_part r = record { method = r.method; target = r.target; minor = r.minor; fi
 abbrev pub sized_front : ℕ → List ℕ → ℕ → BodyFront
 sized_front limit bytes size = if nat_le size limit
     then (if nat_le size (length bytes) then complete (take size bytes) size else lacks open_) else lacks
-    (too_long limit)
+    (too_long sections.Body limit)
 
 -- the front of the bytes behind a head, within the limit of a body
 abbrev pub IsBody : ℕ → List ℕ → Framing → BodyFront → Type 0
@@ -64,7 +66,7 @@ IsFramed at bytes n head (Some framing) front =
 -- that front, by the place where the head ends
 abbrev pub IsHeaded : ℕ → List ℕ → Option ℕ → Option Head → Front → Type 0
 IsHeaded at bytes None head front =
-    front ≡ short false (if nat_lt (length bytes) max_head then open_ else too_long max_head)
+    front ≡ short false (if nat_lt (length bytes) max_head then open_ else too_long sections.Head max_head)
 IsHeaded at bytes (Some n) None front = front ≡ short false bad
 IsHeaded at bytes (Some n) (Some head) front = IsFramed at bytes n head (framing_of head) front
 
@@ -138,8 +140,8 @@ pub data Ending : Type 0 where
   truncated : ℕ → Ending
   -- no request stands at that place
   bad_at : ℕ → Ending
-  -- more than the limit allows stands at that place
-  long_at : ℕ → ℕ → Ending
+  -- at that place stands a request of which the section has more bytes than that limit allows
+  long_at : ℕ → Section → ℕ → Ending
   -- it goes on
   more : Ending
 
@@ -151,7 +153,7 @@ pub record Tail : Type 0 where
 -- how it goes on where no whole request stands; whether the input has ended
 abbrev pub ending_of : Bool → Point → Lack → Ending
 ending_of over p bad = bad_at p.at
-ending_of over p (too_long limit) = long_at p.at limit
+ending_of over p (too_long section limit) = long_at p.at section limit
 ending_of over p open_ = if over then (if length p.ahead == 0 then ended else truncated p.at) else more
 
 -- the same by what stands there

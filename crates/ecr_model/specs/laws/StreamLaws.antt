@@ -20,7 +20,7 @@ is_last ended = false
 is_last closed = true
 is_last (truncated at) = false
 is_last (bad_at at) = true
-is_last (long_at at limit) = true
+is_last (long_at at section limit) = true
 is_last more = false
 
 -- where the bytes show the last that counts, they show the same whatever follows

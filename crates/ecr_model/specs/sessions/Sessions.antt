@@ -11,6 +11,7 @@ use Rattle.ecr_model.specs.declared.outcome.End.TheVariants as ends
 use Rattle.ecr_model.specs.registry.Content.{content_digest}
 use Rattle.ecr_model.specs.registry.Contents.{named_by}
 use Rattle.ecr_model.specs.http.Framing.{waits}
+use Rattle.ecr_model.specs.declared.http.Section.{Section}
 use Rattle.ecr_model.specs.http.Stream.{Point, start, head_part, closes, Begins, Reads, Ending, Tail, ended, closed, truncated, bad_at, long_at, more, AwaitsBody}
 use Rattle.ecr_model.specs.requests.Posed.{posed_of, posed_script, posed_bytes}
 use Rattle.ecr_model.specs.http.Replies.{failed_reply, continue_reply, interim, bad_reply, long_reply, is_head}
@@ -131,7 +132,7 @@ sent_to (e ∷ es) = answer_to e ++ sent_to es
 -- the reply to bytes that are no request
 abbrev pub refusal_of : Ending → List ℕ
 refusal_of (bad_at at) = bad_reply
-refusal_of (long_at at limit) = long_reply limit
+refusal_of (long_at at section limit) = long_reply section
 refusal_of _ = []
 
 -- the bytes that are written at the end
@@ -151,7 +152,7 @@ Ends ends.WriteFault ending size = ⊥
 Ends ends.Mem ending size = ⊥
 Ends (ends.Truncated at) ending size = ending ≡ truncated at
 Ends (ends.Bad at) ending size = ending ≡ bad_at at
-Ends (ends.TooLong at limit) ending size = ending ≡ long_at at limit
+Ends (ends.TooLong at limit) ending size = (section : Section) × (ending ≡ long_at at section limit)
 Ends ends.Spent ending size = (ending ≡ more) × (size ≡ max_read)
 
 -- a read that told the end was made with fewer bytes read than a session may read

@@ -4,8 +4,8 @@ use Rattle.ecr_http.proofs.empty.connection_line.Goals as goal
 
 pub returns-then-close : goal.returns-then-close
 unfolding connection_line
-returns-then-close c = rw c.if-close.true refl
+returns-then-close c = record { line = rw c.if-close.true refl }
 
 pub returns-else-close : goal.returns-else-close
 unfolding connection_line
-returns-else-close c = rw c.if-close.false refl
+returns-else-close c = record { line = rw c.if-close.false refl }

@@ -9,7 +9,7 @@ pub returns-then-not-waits-clause-sends : goal.returns-then-not-waits-clause-sen
 unfolding interim
 returns-then-not-waits-clause-sends g c =
     let held = g.K.Sink.held c.args.sink.now in
-    subst (λ (due : Bool). Appends held held (interim due)) (sym c.if-not-waits.true ∙ c.waits.ensures)
+    subst (λ (due : Bool). Appends held held (interim due)) (sym c.if-not-waits.true ∙ c.waits.ensures.waits)
     (Appends-nil held)
 
 pub returns-clause-sends : goal.returns-clause-sends
@@ -17,5 +17,5 @@ unfolding interim
 returns-clause-sends g c =
     let held = g.K.Sink.held c.args.sink.now in
     let told = g.K.Sink.held c.send.new.sink in
-    subst (λ (due : Bool). Sends held told (interim due) c.send.result) (sym c.if-not-waits.false ∙ c.waits.ensures)
+    subst (λ (due : Bool). Sends held told (interim due) c.send.result) (sym c.if-not-waits.false ∙ c.waits.ensures.waits)
     (subst (λ (l : List ℕ). Sends held told l c.send.result) c.continue_reply.ensures c.send.ensures.sends)

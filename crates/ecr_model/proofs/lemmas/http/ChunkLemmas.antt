@@ -7,6 +7,7 @@ use Rattle.std.proofs.lemmas.List.Folds.{prefix_len-append}
 use Rattle.httparse.specs.Grammar.{chunk_size}
 use Rattle.httparse.proofs.ChunkLemmas.{chunk_line_unique}
 use Rattle.ecr_model.specs.http.Framing.{EndsAt}
+use Rattle.ecr_model.specs.declared.http.Section.TheVariants as sections
 use Rattle.ecr_model.specs.http.Fronts.{bad, too_long, open_, BodyFront, complete, lacks, is_settled_lack, is_settled_body}
 use Rattle.ecr_model.specs.http.Chunks.{max_chunk_line, max_trailers, line_size, line_end, Says, Part, chunk, last_chunk, lacking, if_next, if_crlf, chunk_of, if_within, last_of, IsSaid, IsLined, SaysAt, IsPart, Progress, begun, with_more, past_chunk, Comes, Chunks, front_of, IsChunked}
 use Rattle.ecr_model.proofs.lemmas.http.FramingLemmas.{IsEnd-append, HasNoEnd-append, EndsAt-unique}
@@ -173,9 +174,9 @@ if_within-append : (limit so_far line size : ℕ) (bytes more : List ℕ)
     (chunk_of line bytes size)
 if_within-append limit so_far line size bytes more settled = by (nat_le (so_far + size) limit) settled
   where
-    by : (fits : Bool) → is_settled_part (if fits then chunk_of line bytes size else lacking (too_long limit)) ≡ true
-        → (if fits then chunk_of line (bytes ++ more) size else lacking (too_long limit))
-        ≡ (if fits then chunk_of line bytes size else lacking (too_long limit))
+    by : (fits : Bool) → is_settled_part (if fits then chunk_of line bytes size else lacking (too_long sections.Body limit)) ≡ true
+        → (if fits then chunk_of line (bytes ++ more) size else lacking (too_long sections.Body limit))
+        ≡ (if fits then chunk_of line bytes size else lacking (too_long sections.Body limit))
     by true settled = chunk_of-append line bytes more size settled
     by false settled = refl
 
@@ -187,7 +188,7 @@ last-append n bytes more (Some end) ends settled = (IsEnd-append (1 + max_traile
 last-append n bytes more None ends settled = by (nat_le (length bytes) max_trailers) refl settled
   where
     by : (fits : Bool) → nat_le (length bytes) max_trailers ≡ fits
-        → is_settled_lack (if fits then open_ else too_long max_trailers) ≡ true
+        → is_settled_lack (if fits then open_ else too_long sections.Trailers max_trailers) ≡ true
         → EndsAt (1 + max_trailers) (bytes ++ more) None × (last_of n (bytes ++ more) None ≡ last_of n bytes None)
     by true is settled = absurd (cc)
     by false is settled =
@@ -292,7 +293,7 @@ if_within-chunk : (limit so_far size : ℕ) (part : Part) (c : List ℕ) (n : �
     → part ≡ chunk c n
 if_within-chunk limit so_far size part c n is = by (nat_le (so_far + size) limit) is
   where
-    by : (fits : Bool) → (if fits then part else lacking (too_long limit)) ≡ chunk c n → part ≡ chunk c n
+    by : (fits : Bool) → (if fits then part else lacking (too_long sections.Body limit)) ≡ chunk c n → part ≡ chunk c n
     by true is = is
     by false is = absurd (cc)
 
@@ -342,7 +343,7 @@ IsSaid-last_length limit so_far bytes n (Some (suc k)) m within is = absurd (non
     none same = by (nat_le (so_far + suc k) limit) same
       where
         by : (fits : Bool) → last_chunk m ≡
-            (if fits then chunk_of (suc n) (drop (suc n) bytes) (suc k) else lacking (too_long limit)) → ⊥
+            (if fits then chunk_of (suc n) (drop (suc n) bytes) (suc k) else lacking (too_long sections.Body limit)) → ⊥
         by true same = crlf_none (take (suc k) (drop (suc n) bytes)) (suc n + suc k + 2)
             (drop (suc k) (drop (suc n) bytes)) same
         by false same = cc

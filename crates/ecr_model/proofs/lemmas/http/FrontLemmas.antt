@@ -8,6 +8,7 @@ use Rattle.ecr_model.specs.declared.http.Framing.TheVariants.{Sized, Chunked}
 use Rattle.ecr_model.specs.declared.http.Request.{Request}
 use Rattle.ecr_model.specs.http.Framing.{max_head, max_body, ends_empty, IsEnd, HasNoEnd, EndsAt, Parses, framing_of}
 pub use Rattle.ecr_model.specs.http.Fronts.{is_settled_lack, is_settled_body}
+use Rattle.ecr_model.specs.declared.http.Section.TheVariants as sections
 use Rattle.ecr_model.specs.http.Stream.{bad, too_long, open_, Front, whole, short, BodyFront, complete, lacks, sized_front, IsBody, with_body, IsFramed, IsHeaded, ParsesTo, IsFront}
 use Rattle.ecr_model.proofs.lemmas.http.ChunkLemmas.{IsChunked-unique, IsChunked-append, IsChunked-length}
 use Rattle.ecr_model.proofs.lemmas.http.FramingLemmas.{IsEnd-append, HasNoEnd-append, IsEnd-positive, EndsAt-unique, Parses-unique}
@@ -38,7 +39,7 @@ IsFront-nil at = IsFront-no_head at [] none_ends (omega arith)
     none_ends (suc k) below = absurd (omega arith)
 
 pub IsFront-long : (at : ℕ) (bytes : List ℕ) → HasNoEnd bytes (min (length bytes) max_head) → max_head ≤ length bytes
-    → IsFront at bytes (short false (too_long max_head))
+    → IsFront at bytes (short false (too_long sections.Head max_head))
 IsFront-long at bytes none_ends long = record {
   end = None;
   head = None;
@@ -76,7 +77,7 @@ IsBody-unique limit bytes (Sized size) x y a b = a ∙ sym b
 IsBody-unique limit bytes Chunked x y a b = IsChunked-unique limit bytes x y a b
 
 sized-too_long : (limit size : ℕ) (bytes : List ℕ) → nat_le size limit ≡ false
-    → sized_front limit bytes size ≡ lacks (too_long limit)
+    → sized_front limit bytes size ≡ lacks (too_long sections.Body limit)
 sized-too_long limit size bytes over = rw over refl
 
 sized-complete : (limit size : ℕ) (bytes : List ℕ) → nat_le size limit ≡ true → nat_le size (length bytes) ≡ true
@@ -98,7 +99,7 @@ IsBody-sized_open limit size bytes fits few =
     sym (sized-open limit size bytes (le-leb size limit fits) (lt-leb size (length bytes) few))
 
 pub IsBody-sized_long : (limit size : ℕ) (bytes : List ℕ) → limit < size
-    → IsBody limit bytes (Sized size) (lacks (too_long limit))
+    → IsBody limit bytes (Sized size) (lacks (too_long sections.Body limit))
 IsBody-sized_long limit size bytes over = sym (sized-too_long limit size bytes (lt-leb size limit over))
 
 sized-append : (limit size : ℕ) (bytes more : List ℕ) (fits there : Bool) → nat_le size limit ≡ fits
@@ -129,7 +130,7 @@ IsBody-append limit bytes more Chunked body settled is = IsChunked-append limit 
 sized-length : (limit size : ℕ) (bytes content : List ℕ) (n : ℕ) (fits there : Bool) → nat_le size limit ≡ fits
     → nat_le size (length bytes) ≡ there → complete content n ≡ sized_front limit bytes size → n ≤ length bytes
 sized-length limit size bytes content n false there fit come is =
-    let clash : complete content n ≡ lacks (too_long limit) = is ∙ sized-too_long limit size bytes fit in absurd (cc)
+    let clash : complete content n ≡ lacks (too_long sections.Body limit) = is ∙ sized-too_long limit size bytes fit in absurd (cc)
 sized-length limit size bytes content n true true fit come is =
     let same : complete content n ≡ complete (take size bytes) size = is ∙ sized-complete limit size bytes fit come in
     let lengths : n ≡ size = cc in
@@ -225,7 +226,7 @@ framed_append at bytes more n head (Some framing) front within settled is =
     )
 
 long_if : (less : Bool) (front : Front) → is_settled front ≡ true
-    → front ≡ short false (if less then open_ else too_long max_head) → less ≡ false
+    → front ≡ short false (if less then open_ else too_long sections.Head max_head) → less ≡ false
 long_if true front settled is =
     let none : is_settled (short false open_) ≡ true = sym (ap is_settled is) ∙ settled in absurd (cc)
 long_if false front settled is = refl
@@ -239,7 +240,7 @@ headed_append at bytes more None head front ends parses settled is =
     let total : max_head ≤ length (bytes ++ more) = omega (arith, length-append bytes more) in
     let most : min (length bytes) max_head ≡ max_head = omega arith in
     let all : min (length (bytes ++ more)) max_head ≡ max_head = omega arith in
-    let same : short false (too_long max_head) ≡ front = sym (is ∙ rw over refl) in
+    let same : short false (too_long sections.Head max_head) ≡ front = sym (is ∙ rw over refl) in
     subst (λ (f : Front). IsFront at (bytes ++ more) f) same
     (IsFront-long at (bytes ++ more) (rw all (HasNoEnd-append bytes more max_head long (rw most at ends))) total)
 headed_append at bytes more (Some n) None front ends parses settled is = record {

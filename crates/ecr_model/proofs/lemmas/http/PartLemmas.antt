@@ -4,6 +4,7 @@ use Rattle.std.proofs.Math.Seq.{take-append_seam, drop-append_seam}
 use Rattle.std.proofs.lemmas.Bool.{lt-ltb, le-ltb, le-leb, lt-leb}
 use Rattle.std.proofs.lemmas.List.{drop-drop, drop_all}
 use Rattle.ecr_model.specs.http.Framing.{IsEnd, HasNoEnd}
+use Rattle.ecr_model.specs.declared.http.Section.TheVariants as sections
 use Rattle.ecr_model.specs.http.Fronts.{Lack, bad, too_long, open_, complete, lacks}
 use Rattle.ecr_model.specs.http.Chunks.{max_chunk_line, max_trailers, line_end, Says, Part, chunk, last_chunk, lacking, if_crlf, chunk_of, if_within, IsSaid, IsPart, Progress, begun, past_chunk, Comes, Chunks, IsChunked}
 use Rattle.ecr_model.proofs.lemmas.http.ChunkLemmas.{IsPart-by}
@@ -44,9 +45,9 @@ IsPart-sized limit so_far bytes n size part ends says some is =
 
 pub IsPart-over : (limit so_far : ℕ) (bytes : List ℕ) (n size : ℕ) → line_end bytes ≡ Some n
     → Says (take (suc n) bytes) (Some size) → 0 < size → limit < so_far + size
-    → IsPart limit so_far bytes (lacking (too_long limit))
+    → IsPart limit so_far bytes (lacking (too_long sections.Body limit))
 IsPart-over limit so_far bytes n size ends says some over =
-    IsPart-sized limit so_far bytes n size (lacking (too_long limit)) ends says some
+    IsPart-sized limit so_far bytes n size (lacking (too_long sections.Body limit)) ends says some
     (rw (lt-leb (so_far + size) limit over) refl)
 
 IsPart-within : (limit so_far : ℕ) (bytes : List ℕ) (n size : ℕ) (part : Part) → line_end bytes ≡ Some n
@@ -91,9 +92,9 @@ IsPart-open_trailers limit so_far bytes n ends says none_ends few =
 
 pub IsPart-long_trailers : (limit so_far : ℕ) (bytes : List ℕ) (n : ℕ) → line_end bytes ≡ Some n
     → Says (take (suc n) bytes) (Some 0) → HasNoEnd (drop n bytes) (min (length (drop n bytes)) (1 + max_trailers))
-    → max_trailers < length (drop n bytes) → IsPart limit so_far bytes (lacking (too_long max_trailers))
+    → max_trailers < length (drop n bytes) → IsPart limit so_far bytes (lacking (too_long sections.Trailers max_trailers))
 IsPart-long_trailers limit so_far bytes n ends says none_ends long =
-    IsPart-by limit so_far bytes (Some n) (Some 0) (lacking (too_long max_trailers)) ends says
+    IsPart-by limit so_far bytes (Some n) (Some 0) (lacking (too_long sections.Trailers max_trailers)) ends says
     (None, none_ends, rw (lt-leb (length (drop n bytes)) max_trailers long) refl)
 
 -- ---- the body

@@ -11,6 +11,7 @@ use Rattle.ecr_model.specs.declared.http.Framing.TheVariants.{Sized, Chunked}
 use Rattle.ecr_model.specs.declared.http.Request.{Request}
 use Rattle.ecr_model.specs.http.Fields.{head_of}
 use Rattle.ecr_model.specs.http.Framing.{max_head, max_body, ends_empty, HasNoEnd, EndsAt, Parses, framing_of}
+use Rattle.ecr_model.specs.declared.http.Section.TheVariants as sections
 use Rattle.ecr_model.specs.http.Fronts.{bad, too_long, open_, BodyFront, complete, lacks}
 use Rattle.ecr_model.specs.http.Chunks.{max_trailers, line_end, Says, Part, chunk, last_chunk, lacking, chunk_of, if_within, last_of, IsSaid, IsLined, SaysAt, IsPart, Progress, begun, past_chunk, Comes, Chunks, IsChunked}
 use Rattle.ecr_model.specs.http.Stream.{Front, whole, short, sized_front, IsBody, with_body, IsFramed, IsHeaded, ParsesTo, IsFront, blank_length, Point, start, past_blank, Meets, past, Begins, closed, Tail, ending_of, Lacks, StopsBy, Reads}
@@ -167,7 +168,7 @@ IsFramed-some at bytes n head (Some framing) =
 IsHeaded-some : (at : ℕ) (bytes : List ℕ) (end : Option ℕ) (head : Option Head)
     → (front : Front) × IsHeaded at bytes end head front
 IsHeaded-some at bytes None head =
-    (short false (if nat_lt (length bytes) max_head then open_ else too_long max_head), refl)
+    (short false (if nat_lt (length bytes) max_head then open_ else too_long sections.Head max_head), refl)
 IsHeaded-some at bytes (Some n) None = (short false bad, refl)
 IsHeaded-some at bytes (Some n) (Some head) = IsFramed-some at bytes n head (framing_of head)
 

@@ -207,7 +207,7 @@ Reads-unique bytes over rs ss t u x y =
 last_settled : (over : Bool) (p : Point) (lack : Lack) → is_last (ending_of over p lack) ≡ true
     → is_settled_lack lack ≡ true
 last_settled over p bad last = refl
-last_settled over p (too_long limit) last = refl
+last_settled over p (too_long section limit) last = refl
 last_settled false p open_ last = absurd (cc)
 last_settled true p open_ last = absurd (never (length p.ahead == 0) last)
   where
@@ -218,7 +218,7 @@ last_settled true p open_ last = absurd (never (length p.ahead == 0) last)
 same_ending : (over late : Bool) (p : Point) (others : List ℕ) (lack : Lack) → is_settled_lack lack ≡ true
     → ending_of late (grown p others) lack ≡ ending_of over p lack
 same_ending over late p others bad settled = refl
-same_ending over late p others (too_long limit) settled = refl
+same_ending over late p others (too_long section limit) settled = refl
 same_ending over late p others open_ settled = absurd (cc)
 
 same_tail : (over late : Bool) (p : Point) (others : List ℕ) (due : Bool) (lack : Lack) → is_settled_lack lack ≡ true

@@ -19,7 +19,7 @@ end_like ended = ends.Whole
 end_like closed = ends.Whole
 end_like (truncated at) = ends.Truncated at
 end_like (bad_at at) = ends.Bad at
-end_like (long_at at limit) = ends.TooLong at limit
+end_like (long_at at section limit) = ends.TooLong at limit
 end_like more = ends.Spent
 
 end_is : (end : End) (ending : Ending) (size : ℕ) → IsOfRead end → Ends end ending size → end ≡ end_like ending
@@ -28,7 +28,7 @@ end_is ends.Whole ending size d x =
     ⊎_elim (λ (e : ending ≡ ended). sym (ap end_like e)) (λ (e : ending ≡ closed). sym (ap end_like e)) x
 end_is (ends.Truncated at) ending size d x = sym (ap end_like x)
 end_is (ends.Bad at) ending size d x = sym (ap end_like x)
-end_is (ends.TooLong at limit) ending size d x = sym (ap end_like x)
+end_is (ends.TooLong at limit) ending size d x = sym (ap end_like x.1)
 end_is ends.Spent ending size d x = sym (ap end_like x.0)
 end_is ends.Usage ending size d x = absurd d
 end_is ends.ReadFault ending size d x = absurd d
@@ -57,13 +57,13 @@ needs_end ended = true
 needs_end closed = false
 needs_end (truncated at) = true
 needs_end (bad_at at) = false
-needs_end (long_at at limit) = false
+needs_end (long_at at section limit) = false
 needs_end more = false
 
 lack_over : (over : Bool) (p : Point) (lack : Lack) → needs_end (ending_of over p lack) ≡ true → over ≡ true
 lack_over true p lack needs = refl
 lack_over false p bad needs = absurd (cc)
-lack_over false p (too_long limit) needs = absurd (cc)
+lack_over false p (too_long section limit) needs = absurd (cc)
 lack_over false p open_ needs = absurd (cc)
 
 tail_over : (over : Bool) (p : Point) (front : Front) (tail : Tail) → tail_of over p front ≡ Some tail
@@ -113,7 +113,7 @@ end_shows ends.Whole ending size d x =
     ⊎_elim (λ (e : ending ≡ ended). inr (ap needs_end e)) (λ (e : ending ≡ closed). inl (ap is_last e)) x
 end_shows (ends.Truncated at) ending size d x = inr (ap needs_end x)
 end_shows (ends.Bad at) ending size d x = inl (ap is_last x)
-end_shows (ends.TooLong at limit) ending size d x = inl (ap is_last x)
+end_shows (ends.TooLong at limit) ending size d x = inl (ap is_last x.1)
 end_shows ends.Usage ending size d x = absurd d
 end_shows ends.ReadFault ending size d x = absurd d
 end_shows ends.WriteFault ending size d x = absurd d

@@ -6,4 +6,4 @@ pub returns-then-len-eq0-clause-goes_on : goal.returns-then-len-eq0-clause-goes_
 returns-then-len-eq0-clause-goes_on g c = λ limit before old d.
     c.read_on.ensures.goes_on limit before old c.args.body.now.items
     (Data-awaits limit before old _ c.args.self.now c.args.body.now.items c.args.left
-    (sym c.len.ensures ∙ c.if-len-eq0.true) d)
+    (sym c.len.ensures.length ∙ c.if-len-eq0.true) d)

@@ -11,15 +11,15 @@ returns-then-len-ge-MAX_HEAD-clause-goes_on g c = λ before old r. record {
   read = r;
   none = c.requires.none;
   stands = IsFront-long c.args.self.now.at c.args.self.now.buffer c.requires.no_end
-      (omega (arith, c.if-len-ge-MAX_HEAD.true, c.len.ensures));
+      (omega (arith, c.if-len-ge-MAX_HEAD.true, c.len.ensures.length));
 }
 
 pub returns-clause-goes_on : goal.returns-clause-goes_on
 unfolding max_head
 returns-clause-goes_on g c = λ before old r.
-    let size = c.len-self.ensures in
+    let size = c.len-self.ensures.length in
     let few = c.if-len-ge-MAX_HEAD.false in
-    let count = c.len.ensures in
+    let count = c.len.ensures.length in
     let none_ends : HasNoEnd c.args.self.now.buffer c.len-self.result = λ k below. c.requires.no_end k (omega arith) in
     let all : HasNoEnd c.args.self.now.buffer (length c.args.self.now.buffer) =
     λ k below. c.requires.no_end k (omega arith) in

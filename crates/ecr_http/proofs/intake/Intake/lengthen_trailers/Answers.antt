@@ -9,7 +9,7 @@ pub returns-then-len-gt-MAX_TRAILERS-clause-goes_on : goal.returns-then-len-gt-M
 unfolding max_trailers
 returns-then-len-gt-MAX_TRAILERS-clause-goes_on g c = λ limit scanned before old body d.
     let long = c.if-len-gt-MAX_TRAILERS.true in
-    Trailers-long limit before old _ c.args.self.now body scanned c.requires (omega (arith, c.len.ensures)) d
+    Trailers-long limit before old _ c.args.self.now body scanned c.requires (omega (arith, c.len.ensures.length)) d
 
 pub returns-clause-goes_on : goal.returns-clause-goes_on
 unfolding max_trailers
@@ -18,8 +18,8 @@ returns-clause-goes_on g c = λ limit scanned before old body d.
     c.read_on.ensures.goes_on limit before old body
     (subst (λ (n : ℕ). Awaits limit before old (g.S.Source.left c.args.source.now) c.args.self.now body
     (stages.Trailers n))
-    (sym c.len-scanned.ensures)
-    (Trailers-awaits limit before old _ c.args.self.now body scanned c.requires (omega (arith, c.len.ensures)) d))
+    (sym c.len-scanned.ensures.length)
+    (Trailers-awaits limit before old _ c.args.self.now body scanned c.requires (omega (arith, c.len.ensures.length)) d))
 
 pub returns-clause-nearer : goal.returns-clause-nearer
 unfolding left_to_do

@@ -8,7 +8,7 @@ use Rattle.ecr_http.proofs.intake.Intake.move_data.Goals as goal
 
 pub returns-clause-goes_on : goal.returns-clause-goes_on
 returns-clause-goes_on c = λ limit before after old d.
-    let size = c.len.ensures in
+    let size = c.len.ensures.length in
     let least = c.min-count.ensures in
     let stage = stages.Data (c.args.left - c.min-count.result) in
     subst (λ (b : List ℕ). Decodes limit before old after (rest_of b c.args.self.now) c.move_to.new.to.items stage)
@@ -21,7 +21,7 @@ returns-clause-goes_on c = λ limit before after old d.
 
 pub returns-clause-nearer : goal.returns-clause-nearer
 returns-clause-nearer c =
-    let size = c.len.ensures in
+    let size = c.len.ensures.length in
     let least = c.min-count.ensures in
     let stage = stages.Data (c.args.left - c.min-count.result) in
     subst (λ (b : List ℕ). left_to_do stage (rest_of b c.args.self.now) < left_to_do

@@ -3,4 +3,4 @@ use Rattle.ecr_http.proofs.LeadLemmas.{IsReady-fresh}
 use Rattle.ecr_http.proofs.intake.Intake.new.Goals as goal
 
 pub returns-clause-ready : goal.returns-clause-ready
-returns-clause-ready c = IsReady-fresh _ c.new.ensures refl refl refl
+returns-clause-ready c = IsReady-fresh _ c.new.ensures.empty refl refl refl

@@ -16,14 +16,14 @@ overflow_sub-size g c =
 pub overflow_sub-size-in-None : goal.overflow_sub-size-in-None
 overflow_sub-size-in-None g c =
     let d = rw c.in-None.is at (c.in_ok-next.ensures.goes_on _ c.args.self.now c.loop-body.invariant.decodes) in
-    let fits = Decoded-rest c.args.limit _ c.args.self.now _ c.decode.new.self _ c.len-held.result d c.len-held.ensures in
-    omega (arith, c.len.ensures)
+    let fits = Decoded-rest c.args.limit _ c.args.self.now _ c.decode.new.self _ c.len-held.result d c.len-held.ensures.length in
+    omega (arith, c.len.ensures.length)
 
 pub returns-in-None-clause-takes : goal.returns-in-None-clause-takes
 returns-in-None-clause-takes g c =
     let d = rw c.in-None.is at (c.in_ok-next.ensures.goes_on _ c.args.self.now c.loop-body.invariant.decodes) in
-    let left = c.len.ensures in
-    HasBody-decoded c.args.limit _ c.args.self.now _ c.decode.new.self c.len-held.result _ d c.len-held.ensures
+    let left = c.len.ensures.length in
+    HasBody-decoded c.args.limit _ c.args.self.now _ c.decode.new.self c.len-held.result _ d c.len-held.ensures.length
     (omega arith)
 
 pub returns-in_err-next-clause-takes : goal.returns-in_err-next-clause-takes
