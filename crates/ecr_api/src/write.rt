@@ -1,7 +1,7 @@
 // Replies as bytes (Amazon ECR API Reference; RFC 9112).
 ghost use Rattle.std.specs.Prelude.{◌≡◌, IfOk, None};
 ghost use Rattle.ecr_model.specs.requests.Rendered.{json, refused, status_of, with_head};
-ghost use Rattle.ecr_http.specs.Replies.{reply_bytes};
+ghost use Rattle.ecr_http.specs.Replies.{message_bytes};
 ghost use Rattle.ecr_api.specs.Readings.{meaning};
 
 use crate::Asked;
@@ -25,7 +25,7 @@ pub fn write_reply(
     blobs: &[Blob],
     close: bool,
 ) -> Result<HttpReply, Mem>
-    ensures exact { IfOk result (λ r. reply_bytes r ≡ json (meaning asked.now) reply.now blobs.now close) }
+    ensures exact { IfOk result (λ r. message_bytes r ≡ json (meaning asked.now) reply.now blobs.now close) }
 {
     let body = write_body(alloc, asked, reply)?;
     with_head(alloc, close, status_of(reply), body)
@@ -34,7 +34,7 @@ pub fn write_reply(
 /// The reply to a body that asks for nothing; it says `close` where the session closes after it.
 #[tactic(auto, unfolding(ecr_model::specs::requests::Rendered::refused, ecr_model::specs::requests::Refusals::refusal_body))]
 pub fn write_refused(alloc: Global, refusal: &Refusal, close: bool) -> Result<HttpReply, Mem>
-    ensures exact { IfOk result (λ r. reply_bytes r ≡ refused refusal.now close) }
+    ensures exact { IfOk result (λ r. message_bytes r ≡ refused refusal.now close) }
 {
     let body = refusal_body(alloc, refusal, None, None)?;
     with_head(alloc, close, "400 Bad Request", body)
@@ -42,7 +42,7 @@ pub fn write_refused(alloc: Global, refusal: &Refusal, close: bool) -> Result<Ht
 
 /// A reply of the JSON API with that body, which isn't copied.
 fn with_head(alloc: Global, close: bool, status: &str, body: Vec<u8>) -> Result<HttpReply, Mem>
-    ensures { IfOk result (λ r. reply_bytes r ≡ with_head close status.now body.items) }
+    ensures { IfOk result (λ r. message_bytes r ≡ with_head close status.now body.items) }
 {
     let head = write_json_head(alloc, close, status, body.len())?;
     Ok(HttpReply {

@@ -8,6 +8,7 @@ pub mod LeadLemmas
 pub mod BodyLemmas
 pub mod BufferLemmas
 pub mod DecodingLemmas
+pub mod StageLemmas
 pub mod SettledLemmas
 pub mod EventLemmas
 pub mod BehindLemmas

@@ -8,6 +8,7 @@ use Rattle.memchr.specs.Find.{Nowhere, Passes, is_byte}
 use Rattle.ecr_model.specs.http.Framing.{ends_empty, HasNoEnd}
 use Rattle.ecr_http.specs.Lines.{HasNoLine}
 
+-- how long a piece of bytes is
 pub length-slice_range : (bytes : List ℕ) (from to : ℕ) → to ≤ length bytes
     → length (slice_range bytes from to) ≡ to - from
 length-slice_range bytes from to within =

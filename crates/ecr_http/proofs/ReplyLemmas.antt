@@ -16,6 +16,7 @@ concat-take_more blobs i blob inside at =
     ap concat (take_more blobs i blob inside) ∙ concat-append (take i blobs) (get_or blobs i blob ∷ [])
     ∙ ap (λ l. concat (take i blobs) ++ l) (append-nil (get_or blobs i blob) ∙ sym at)
 
+-- one more blob was written
 pub Appends-blob : (before mid after : Option (List ℕ)) (blobs : List (List ℕ)) (i : ℕ) (blob : List ℕ)
     → i < length blobs → blob ≡ get_or blobs i blob
     → Appends before mid (concat (take i blobs)) → Appends mid after blob

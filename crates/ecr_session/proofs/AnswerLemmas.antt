@@ -30,7 +30,7 @@ use Rattle.ecr_api.specs.Readings.{Reads}
 use Rattle.ecr_api.specs.declared.asked.ApiRefusal.{ApiRefusal}
 use Rattle.ecr_api.specs.declared.asked.ApiRefusal.TheVariants as api_refusals
 use Rattle.ecr_desk.specs.Desks.{DeskState}
-use Rattle.ecr_http.specs.Replies.{reply_bytes}
+use Rattle.ecr_http.specs.Replies.{message_bytes}
 use Rattle.ecr_http.specs.declared.reply.HttpReply.{HttpReply}
 use Rattle.ecr_session.specs.Serving.{Answers, cut_of}
 use Rattle.ecr_session.specs.Turns.{IsReplied, RanWith, StoppedWith}
@@ -57,7 +57,7 @@ Reads-refused why refusal r is reads = subst (λ w. Reads (Err w) r) is reads
 
 pub IsReplied-unrouted : (seen : DeskState) (posed : Posed) (moment : ℕ) (close : Bool) (reply : HttpReply)
     (sealed : Option Digest) (old : List Place) → posed ≡ unrouted
-    → reply_bytes reply ≡ empty_reply close (codes "404 Not Found") → sealed ≡ None
+    → message_bytes reply ≡ empty_reply close (codes "404 Not Found") → sealed ≡ None
     → IsReplied seen seen posed moment close reply sealed old old
 unfolding posed_script posed_bytes
 IsReplied-unrouted seen posed moment close reply sealed old is bytes none =
@@ -73,7 +73,7 @@ IsReplied-unrouted seen posed moment close reply sealed old is bytes none =
 
 pub IsReplied-refused : (seen : DeskState) (posed : Posed) (refusal : Refusal) (moment : ℕ) (close : Bool)
     (reply : HttpReply) (sealed : Option Digest) (old : List Place) → posed ≡ api (refuses refusal)
-    → reply_bytes reply ≡ refused refusal close → sealed ≡ None
+    → message_bytes reply ≡ refused refusal close → sealed ≡ None
     → IsReplied seen seen posed moment close reply sealed old old
 unfolding posed_script posed_bytes
 IsReplied-refused seen posed refusal moment close reply sealed old is bytes none =
@@ -90,7 +90,7 @@ IsReplied-refused seen posed refusal moment close reply sealed old is bytes none
 pub IsReplied-asked : (before after : DeskState) (asked : Asked) (moment : ℕ) (close : Bool) (answer : Decided)
     (contents : List (List ℕ)) (reply : HttpReply) (old now : List Place)
     → RanWith before after (asked_script asked moment) answer old now → AreContents answer.reply contents
-    → reply_bytes reply ≡ json asked answer.reply contents close
+    → message_bytes reply ≡ json asked answer.reply contents close
     → IsReplied before after (api (asks asked)) moment close reply answer.sealed old now
 unfolding posed_script posed_bytes
 IsReplied-asked before after asked moment close answer contents reply old now ran carries bytes =
@@ -228,15 +228,15 @@ pub Answers-replied : (before after : DeskState) (moment : ℕ) (request : Reque
     (sealed : Option Digest) (old places : List Place) (first last : ℕ) (cut : Cut)
     → cut ≡ cut_of (last - first) false sealed → old ≡ [] → first ≡ before.made → last ≡ after.made
     → IsReplied before after (posed_of before.realm.served request) moment (closes request) reply sealed old places
-    → (contents : List (List ℕ)) × Answers before after moment request contents (reply_bytes reply) places cut
+    → (contents : List (List ℕ)) × Answers before after moment request contents (message_bytes reply) places cut
 Answers-replied before after moment request reply sealed old places first last cut is_cut empty first_is last_is r =
     let told : places ≡ r.ran.places = r.ran.added ∙ ap (λ l. l ++ r.ran.places) empty in
     let count : last - first ≡ count_changed r.ran.places =
     entries_of first last before.made after.made (count_changed r.ran.places) first_is last_is r.ran.ran.counted in
     let contents : List (List ℕ) = r.contents in (
       contents,
-      subst (λ k. Answers before after moment request contents (reply_bytes reply) places k) (sym is_cut)
-          (subst (λ ps. Answers before after moment request contents (reply_bytes reply) ps
+      subst (λ k. Answers before after moment request contents (message_bytes reply) places k) (sym is_cut)
+          (subst (λ ps. Answers before after moment request contents (message_bytes reply) ps
           (cut_of (last - first) false sealed)) (sym told) (inl (record {
             answer = r.answer;
             ran = r.ran.ran;

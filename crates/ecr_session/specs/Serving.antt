@@ -17,7 +17,7 @@ use Rattle.ecr_model.specs.registry.Views.{places_of}
 use Rattle.ecr_model.specs.sessions.Sessions.{Account, Outside, SettingOf, Exchange, IsTime, ServicedBy, ServesBy, StandingOf, max_read, requests_of, script_of, sent_to}
 use Rattle.ecr_model.specs.http.Stream.{Point, start, closes, Begins}
 use Rattle.ecr_desk.specs.Desks.{DeskState, Ran, Stopped}
-use Rattle.ecr_http.specs.Replies as http
+use Rattle.ecr_http.specs.Replies.{message_bytes}
 use Rattle.ecr_http.specs.Sends.{Sends}
 use Rattle.ecr_http.specs.declared.reply.HttpReply.{HttpReply}
 use Rattle.ecr_http.specs.declared.write.Sent.{Sent}
@@ -27,7 +27,7 @@ use Rattle.ecr_session.specs.declared.session.Session.{Session}
 -- the bytes of a reply; none stands for the one where there was no memory
 abbrev pub reply_bytes : Bool → Bool → Option HttpReply → List ℕ
 reply_bytes bare close None = failed_reply bare close
-reply_bytes bare close (Some reply) = http.reply_bytes reply
+reply_bytes bare close (Some reply) = message_bytes reply
 
 -- the cut of an answered request
 abbrev pub cut_of : ℕ → Bool → Option Digest → Cut

@@ -16,7 +16,7 @@ use Rattle.ecr_model.specs.requests.Requests.{Decided, one_script, rows_in}
 use Rattle.ecr_model.specs.registry.Scripts.{Script}
 use Rattle.ecr_model.specs.registry.Views.{places_of}
 use Rattle.ecr_desk.specs.Desks.{DeskState, Ran, Stopped}
-use Rattle.ecr_http.specs.Replies.{reply_bytes}
+use Rattle.ecr_http.specs.Replies.{message_bytes}
 use Rattle.ecr_http.specs.declared.reply.HttpReply.{HttpReply}
 
 -- all turns of the script were made and came to that answer, and their places stand behind those before
@@ -44,7 +44,7 @@ pub record IsReplied (before after : DeskState) (posed : Posed) (moment : ℕ) (
   pub ran : RanWith before after (posed_script posed moment) answer old now
   pub contents : List (List ℕ)
   pub carries : AreContents answer.reply contents
-  pub bytes : reply_bytes reply ≡ posed_bytes posed close answer.reply contents
+  pub bytes : message_bytes reply ≡ posed_bytes posed close answer.reply contents
   pub sealed_is : sealed ≡ answer.sealed
 
 -- after these turns the rest of the whole script is left: it ends as that does

@@ -1,14 +1,14 @@
 // What a request is answered.
 ghost use Rattle.std.specs.Prelude.{◌≡◌, ◌<◌, ℕ, List, codes, length, IfOk, None, OnErr};
 ghost use Rattle.ecr_api.specs.Readings.{LoadFits, Reads, meaning};
-ghost use Rattle.ecr_http.specs.Replies.{reply_bytes};
+ghost use Rattle.ecr_http.specs.Replies.{message_bytes};
 ghost use Rattle.ecr_model.specs.requests.Actions.{asks, reading};
 ghost use Rattle.ecr_model.specs.registry.Contents.{AreContents};
 ghost use Rattle.ecr_model.specs.requests.Posed.{api, base_of, is_json_call, posed_of, posed_script, target_of};
 ghost use Rattle.ecr_model.specs.http.Replies.{empty_reply, is_head};
 ghost use Rattle.ecr_model.specs.requests.Requests.{asked_script, of_site};
 ghost use Rattle.ecr_model.specs.http.Stream.{closes};
-ghost use Rattle.ecr_session.specs.Serving.{Answers, cut_of, reply_bytes as sent_bytes};
+ghost use Rattle.ecr_session.specs.Serving.{Answers, cut_of, reply_bytes};
 ghost use Rattle.ecr_session.specs.Turns.{IsAskable, IsReplied, RanWith, StoppedWith};
 
 use crate::describe::describe;
@@ -47,7 +47,7 @@ pub(crate) fn answer_request<D: AnyDesk>(
     requires { 0 < length (D.seen desk.old).realm.served }
     ensures { (contents : List (List ℕ))
         × Answers (D.seen desk.old) (D.seen desk.new) moment request.now contents
-        (sent_bytes (is_head request.now) (closes request.now) result.reply) result.places.items result.cut }
+        (reply_bytes (is_head request.now) (closes request.now) result.reply) result.places.items result.cut }
 {
     let before = desk.made();
     let mut places = Vec::new(alloc);
@@ -279,7 +279,7 @@ fn of_site(reply: SiteReply) -> Reply
 
 // The reply where nothing is served.
 fn write_not_found(alloc: Global, close: bool) -> Result<HttpReply, Mem>
-    ensures { IfOk result (λ r. reply_bytes r ≡ empty_reply close (codes "404 Not Found")) }
+    ensures { IfOk result (λ r. message_bytes r ≡ empty_reply close (codes "404 Not Found")) }
 {
     write_empty(alloc, close, "404 Not Found")
 }

@@ -4,7 +4,8 @@ use Rattle.ecr_model.proofs.lemmas.http.ChunkLemmas.{line_end-is}
 use Rattle.ecr_http.specs.Decoding.{Decodes, left_to_do}
 use Rattle.ecr_http.specs.declared.chunks.Stage.TheVariants as stages
 use Rattle.ecr_http.proofs.BodyLemmas.{rest_of}
-use Rattle.ecr_http.proofs.DecodingLemmas.{Says-taken, Line-no_size, Line-over, Line-data, Line-last, nearer_by_use}
+use Rattle.ecr_http.proofs.DecodingLemmas.{Says-taken, nearer_by_use}
+use Rattle.ecr_http.proofs.StageLemmas.{Line-no_size, Line-over, Line-data, Line-last}
 use Rattle.ecr_http.proofs.intake.Intake.begin.Goals as goal
 
 pub returns-in-None-clause-goes_on : goal.returns-in-None-clause-goes_on

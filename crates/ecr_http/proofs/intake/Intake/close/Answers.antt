@@ -3,7 +3,8 @@ use Rattle.std.proofs.lemmas.Result.{err_from_is_err_and}
 use Rattle.ecr_http.specs.Decoding.{IsClosed, Decodes, left_to_do}
 use Rattle.ecr_http.specs.declared.chunks.Stage.TheVariants as stages
 use Rattle.ecr_http.proofs.BodyLemmas.{rest_of}
-use Rattle.ecr_http.proofs.DecodingLemmas.{Data-closes, Data-unclosed, Data-ill_closed, nearer_by_use}
+use Rattle.ecr_http.proofs.DecodingLemmas.{nearer_by_use}
+use Rattle.ecr_http.proofs.StageLemmas.{Data-closes, Data-unclosed, Data-ill_closed}
 use Rattle.ecr_http.proofs.intake.Intake.close.Goals as goal
 
 pub returns-then-closed-clause-goes_on : goal.returns-then-closed-clause-goes_on

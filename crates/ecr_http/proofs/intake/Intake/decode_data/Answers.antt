@@ -1,5 +1,5 @@
 use Rattle.std.proofs.Common.{◌∙◌, sym}
-use Rattle.ecr_http.proofs.DecodingLemmas.{Data-awaits}
+use Rattle.ecr_http.proofs.StageLemmas.{Data-awaits}
 use Rattle.ecr_http.proofs.intake.Intake.decode_data.Goals as goal
 
 pub returns-then-len-eq0-clause-goes_on : goal.returns-then-len-eq0-clause-goes_on

@@ -3,7 +3,7 @@ use Rattle.ecr_model.specs.http.Framing.{IsEnd}
 use Rattle.ecr_model.specs.http.Chunks.{max_trailers}
 use Rattle.ecr_http.specs.Decoding.{Decoded}
 use Rattle.ecr_http.proofs.BodyLemmas.{rest_of}
-use Rattle.ecr_http.proofs.DecodingLemmas.{Trailers-whole}
+use Rattle.ecr_http.proofs.StageLemmas.{Trailers-whole}
 use Rattle.ecr_http.proofs.intake.Intake.decode_trailers.Goals as goal
 
 pub returns-in-Some-clause-goes_on : goal.returns-in-Some-clause-goes_on

@@ -1,6 +1,6 @@
 use Rattle.std.proofs.Common.{arith}
 use Rattle.ecr_model.specs.http.Chunks.{max_chunk_line}
-use Rattle.ecr_http.proofs.DecodingLemmas.{Line-awaits, Line-long}
+use Rattle.ecr_http.proofs.StageLemmas.{Line-awaits, Line-long}
 use Rattle.ecr_http.proofs.intake.Intake.lengthen_line.Goals as goal
 
 pub returns-then-len-ge-MAX_CHUNK_LINE-clause-goes_on : goal.returns-then-len-ge-MAX_CHUNK_LINE-clause-goes_on

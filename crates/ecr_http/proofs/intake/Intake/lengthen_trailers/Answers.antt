@@ -2,7 +2,7 @@ use Rattle.std.proofs.Common.{ℕ, sym, subst, arith}
 use Rattle.ecr_model.specs.http.Chunks.{max_trailers}
 use Rattle.ecr_http.specs.Decoding.{Awaits, left_to_do}
 use Rattle.ecr_http.specs.declared.chunks.Stage.TheVariants as stages
-use Rattle.ecr_http.proofs.DecodingLemmas.{Trailers-awaits, Trailers-long}
+use Rattle.ecr_http.proofs.StageLemmas.{Trailers-awaits, Trailers-long}
 use Rattle.ecr_http.proofs.intake.Intake.lengthen_trailers.Goals as goal
 
 pub returns-then-len-gt-MAX_TRAILERS-clause-goes_on : goal.returns-then-len-gt-MAX_TRAILERS-clause-goes_on

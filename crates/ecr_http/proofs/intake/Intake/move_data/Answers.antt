@@ -3,7 +3,8 @@ use Rattle.std.proofs.lemmas.Result.{err_from_is_err_and}
 use Rattle.ecr_http.specs.Decoding.{Decodes, left_to_do}
 use Rattle.ecr_http.specs.declared.chunks.Stage.TheVariants as stages
 use Rattle.ecr_http.proofs.BodyLemmas.{rest_of}
-use Rattle.ecr_http.proofs.DecodingLemmas.{Data-moved, nearer_by_use}
+use Rattle.ecr_http.proofs.DecodingLemmas.{nearer_by_use}
+use Rattle.ecr_http.proofs.StageLemmas.{Data-moved}
 use Rattle.ecr_http.proofs.intake.Intake.move_data.Goals as goal
 
 pub returns-clause-goes_on : goal.returns-clause-goes_on

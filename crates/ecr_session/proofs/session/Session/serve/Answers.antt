@@ -27,7 +27,7 @@ returns-then-closes-clause-serves g c = λ left faults. (
       ∙ ap (map (λ v. v.items)) c.push_reserved-2.ensures.items ∙ map_push (λ v. v.items) _ _)
       (ap (λ (s : Session). s.cuts.items) c.send.ensures.kept ∙ c.push_reserved-3.ensures.items)
       (ap (λ (s : Session). s.reader) c.send.ensures.kept) refl c.in-Done.ensures.sends,
-  sym c.closes.ensures ∙ c.if-closes.true,
+  sym c.closes.ensures.closes ∙ c.if-closes.true,
 )
 
 pub returns-clause-serves : goal.returns-clause-serves
@@ -41,5 +41,5 @@ returns-clause-serves g c = λ left faults. (
       ∙ ap (map (λ v. v.items)) c.push_reserved-2.ensures.items ∙ map_push (λ v. v.items) _ _)
       (ap (λ (s : Session). s.cuts.items) c.send.ensures.kept ∙ c.push_reserved-3.ensures.items)
       (ap (λ (s : Session). s.reader) c.send.ensures.kept) refl c.in-Done.ensures.sends,
-  sym c.closes.ensures ∙ c.if-closes.false,
+  sym c.closes.ensures.closes ∙ c.if-closes.false,
 )
