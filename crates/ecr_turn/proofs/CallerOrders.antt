@@ -1,5 +1,5 @@
 -- The steps that make and join callers keep the order of turns and the one journal.
-use Rattle.std.proofs.Common.{◌≡◌, ◌≢◌, ℕ, suc, ◌<◌, ◌≤◌, true, List, [], ◌∷◌, ◌++◌, set, Option, Some, refl, sym, ap, ◌∙◌, subst, ⊎_elim, inl, inr, arith}
+use Rattle.std.proofs.Common.{◌≡◌, ◌≢◌, ℕ, suc, ◌<◌, ◌≤◌, max, true, List, [], ◌∷◌, ◌++◌, set, Option, Some, refl, sym, ap, ◌∙◌, subst, ⊎_elim, inl, inr, arith}
 use mathlib.Core.Option.{some, none}
 use mathlib.Core.Option as maybe
 use lib.ListN.{get_elem?}
@@ -12,11 +12,11 @@ use Rattle.ecr_model.specs.registry.Growth.{Each, Grows, Follows}
 use Rattle.ecr_turn.specs.Journals.{longer_of}
 use Rattle.ecr_turn.specs.Turns.{ticket_of, named_of, in_turn, has_recorded, is_live, joined_past, joined_seen, HasTicket, HasNumber, HasSeen, SomeOne}
 use Rattle.ecr_turn.specs.Rule.{Suits, Order}
-use Rattle.ecr_turn.specs.Steps.{naming, settled, newborn, number_of, joining, spent, merged}
+use Rattle.ecr_turn.specs.Steps.{naming, settled, newborn, named_number, joining, spent, merged}
 use Rattle.ecr_turn.proofs.Views.{off, same_some, none_some, set_at, set_each, One-set, One-kept, snoc_each, One-snoc, NoneOf-shorter}
 use Rattle.ecr_model.proofs.lemmas.registry.GrowthLemmas.{Each-weaker, Grows-unnamed, Follows-first, Grows-follows, Each-left}
 use Rattle.ecr_turn.proofs.Journals.{longer_of-nil, longer_of-keeps, Grows-merged, Grows-longer_of, Follows-longer_of, max_least}
-use Rattle.ecr_turn.proofs.Orders.{NoneOf-before, numbers_back, Some-set, still_seen, given_over, rests}
+use Rattle.ecr_turn.proofs.Orders.{Suits-idle, NoneOf-before, numbers_back, Some-set, still_seen, given_over, rests}
 
 module _ {B : Type 0} (lines : B → List Line) (frame : B → Frame) (fixed : Frame) where
   abbrev Home : Type 0
@@ -25,6 +25,7 @@ module _ {B : Type 0} (lines : B → List Line) (frame : B → Frame) (fixed : F
   abbrev Rule : ℕ → ℕ → ℕ → ℕ → Home → List View → Type 0
   Rule = Order lines frame fixed
 
+  -- drawing a number for a caller to come
   pub names : (c n s k : ℕ) (h : Home) (vs : List View) (o : Rule c n s k h vs) (id : ℕ) (v : View)
       → get_elem? vs id ≡ some v → v.stage ≡ Idle
       → (k ≢ v.caller) × Each (λ l. l.caller ≢ k) v.seen × (v.callers ≤ k)
@@ -95,25 +96,17 @@ module _ {B : Type 0} (lines : B → List Line) (frame : B → Frame) (fixed : F
           ((o.each j u there).known a.0).0 in let a₁ = a.1 in omega arith)
           (λ (b : named_of u.stage ≡ Some m). let q = ((o.each j u there).promised m b).0 in omega arith) pu
 
+  -- splitting a pass off for that caller
   pub splits : (c n s k : ℕ) (h : Home) (vs : List View) (o : Rule c n s k h vs) (id : ℕ) (v : View)
       → get_elem? vs id ≡ some v → (y : ℕ) → v.stage ≡ Named y
       → Rule c n s k h (set vs id (settled v) ++ newborn v ∷ [])
   splits c n s k h vs o id v at y names_ =
       let mine = o.each id v at in let live : is_live v.stage ≡ true = ap is_live names_ in let p = mine.promised y
       (ap named_of names_) in let l : View = settled v in let r : View = newborn v in
-      let num : number_of v.stage ≡ y =
-      ap number_of names_ in let kept = mine.known live in let suits : Suits o.log n s k fixed l = record {
-        known = λ _. kept;
-        aware = mine.aware;
-        behind = mine.behind;
-        framed = λ _. mine.framed live;
-        drawn = λ t e. absurd (none_some t e);
-        served = λ t e _. absurd (off e);
-        whole = λ e. absurd (off e);
-        found = λ e. absurd (off e);
-        promised = λ m e. absurd (none_some m e);
-        joined = (omega arith, Follows-first _);
-      } in let whole : SomeOne (HasSeen o.log) (set vs id l) = Some-set (HasSeen o.log) vs id v l at
+      let num : named_number v.stage ≡ y =
+      ap named_number names_ in let kept = mine.known live in let suits : Suits o.log n s k fixed l =
+      Suits-idle o.log n s k fixed v.caller v.callers v.past v.seen v.frame kept mine.aware mine.behind
+      (mine.framed live) in let whole : SomeOne (HasSeen o.log) (set vs id l) = Some-set (HasSeen o.log) vs id v l at
       (still_seen o.log v l refl refl (sym (ap joined_seen names_))) o.longest in
       let q : Rule c n s k h (set vs id l) =
       rests lines frame fixed c n s k h vs o id v l at (ap ticket_of names_) (ap in_turn names_)
@@ -127,19 +120,12 @@ module _ {B : Type 0} (lines : B → List Line) (frame : B → Frame) (fixed : F
             (NoneOf-before has_recorded vs id v l at (ap has_recorded names_)
             (NoneOf-shorter has_recorded (set vs id l) r all));
         numbered = o.numbered;
-        each = snoc_each (Suits o.log n s k fixed) (set vs id l) r record {
-          known = λ _. subst (λ (z : ℕ). (z < k) × Grows z v.past v.seen o.log) (sym num)
-              (p.0, Grows-unnamed v.caller v.past y v.seen o.log kept.1 p.2);
-          aware = mine.aware;
-          behind = mine.behind;
-          framed = λ _. mine.framed live;
-          drawn = λ t e. absurd (none_some t e);
-          served = λ t e _. absurd (off e);
-          whole = λ e. absurd (off e);
-          found = λ e. absurd (off e);
-          promised = λ m e. absurd (none_some m e);
-          joined = (omega arith, Follows-first _);
-        } (set_each (Suits o.log n s k fixed) vs id l suits (λ j u other there. o.each j u there));
+        each = snoc_each (Suits o.log n s k fixed) (set vs id l) r
+            (Suits-idle o.log n s k fixed (named_number v.stage) v.callers v.past v.seen v.frame
+            (subst (λ (z : ℕ). (z < k) × Grows z v.past v.seen o.log) (sym num)
+            (p.0, Grows-unnamed v.caller v.past y v.seen o.log kept.1 p.2)) mine.aware mine.behind
+            (mine.framed live))
+            (set_each (Suits o.log n s k fixed) vs id l suits (λ j u other there. o.each j u there));
         longest = (whole.0, whole.1, at_longer (set vs id l) (r ∷ []) whole.0 whole.1 whole.2, whole.3);
         away = snoc_each (λ u. in_turn u.stage ≡ true → h ≡ none) (set vs id l) r (λ e. absurd (off e))
             (set_each (λ u. in_turn u.stage ≡ true → h ≡ none) vs id l (λ e. absurd (off e))
@@ -161,6 +147,7 @@ module _ {B : Type 0} (lines : B → List Line) (frame : B → Frame) (fixed : F
             (NoneOf-before in_turn vs id v l at (ap in_turn names_) (NoneOf-shorter in_turn (set vs id l) r all));
       }
 
+  -- joining a pass to another
   pub joins : (c n s k : ℕ) (h : Home) (vs : List View) (o : Rule c n s k h vs) (id : ℕ) (v : View)
       → get_elem? vs id ≡ some v → v.stage ≡ Idle → (other : ℕ) (w : View) → ¬ (other ≡ id)
       → get_elem? (set vs id (joining v w)) other ≡ some w → w.stage ≡ Idle
@@ -205,6 +192,7 @@ module _ {B : Type 0} (lines : B → List Line) (frame : B → Frame) (fixed : F
       (λ m x. ⊎_elim (λ (t : (is_live spent.stage ≡ true) × (spent.caller ≡ m)). absurd (off t.0))
       (λ (t : named_of spent.stage ≡ Some m). absurd (none_some m t)) x)
 
+  -- taking in what a joined pass had seen
   pub takes_in : (c n s k : ℕ) (h : Home) (vs : List View) (o : Rule c n s k h vs) (id : ℕ) (v : View)
       → get_elem? vs id ≡ some v → (p : ℕ) (ls : List Line) → v.stage ≡ Joined p ls
       → Grows v.caller v.past v.seen (longer_of v.seen ls) × Follows p ls (longer_of v.seen ls)
@@ -219,18 +207,11 @@ module _ {B : Type 0} (lines : B → List Line) (frame : B → Frame) (fixed : F
         subst (λ (z : ℕ × List Line). Follows z.0 z.1 (longer_of v.seen z.1)) (λ i. (is_p i, is_ls i))
             (Follows-longer_of v.caller v.past jp v.seen js o.log g f),
         rests lines frame fixed c n s k h vs o id v (merged v) at (ap ticket_of joins_) (ap in_turn joins_)
-            (ap has_recorded joins_) refl record {
-              known = λ _. (known.0, Grows-merged v.caller v.past jp v.seen js o.log g f);
-              aware = mine.aware;
-              behind = max_least v.past jp s mine.behind mine.joined.0;
-              framed = λ _. mine.framed live;
-              drawn = λ t e. absurd (none_some t e);
-              served = λ t e _. absurd (off e);
-              whole = λ e. absurd (off e);
-              found = λ e. absurd (off e);
-              promised = λ m e. absurd (none_some m e);
-              joined = (omega arith, Follows-first _);
-            } (Some-set (HasSeen o.log) vs id v (merged v) at
+            (ap has_recorded joins_) refl
+            (Suits-idle o.log n s k fixed v.caller v.callers (max v.past jp) (longer_of v.seen js) v.frame
+            (known.0, Grows-merged v.caller v.past jp v.seen js o.log g f) mine.aware
+            (max_least v.past jp s mine.behind mine.joined.0) (mine.framed live))
+            (Some-set (HasSeen o.log) vs id v (merged v) at
             (λ p. (refl, longer_of-nil (longer_of v.seen js) ∙ p.1)) o.longest)
             (λ m. numbers_back m v (merged v) live refl refl),
       )

@@ -30,6 +30,7 @@ of_caller-none caller (x ∷ ls) all =
     ap (λ (b : Bool). cond b (x ∷ of_caller caller ls) (of_caller caller ls)) (ne_eqb x.caller caller all.0)
     ∙ of_caller-none caller ls all.1
 
+-- the law of what stood below a ticket
 pub what_stood_stays : WhatStoodStays
 what_stood_stays past ticket before after f le =
     ap (below ticket) f.longer ∙
@@ -37,6 +38,7 @@ what_stood_stays past ticket before after f le =
     ∙ (ap (λ (z : List Line). below ticket before ++ z) (below-none ticket past f.news le f.later)
     ∙ append-nil (below ticket before)))
 
+-- the law of a caller's own lines where others add
 pub others_add_none_of_mine : OthersAddNoneOfMine
 others_add_none_of_mine caller past before after g =
     ap (of_caller caller) g.longer ∙
@@ -47,6 +49,7 @@ others_add_none_of_mine caller past before after g =
 abbrev Longer : ℕ → ℕ → List Line → List Line → Type 0
 Longer ticket caller before after = (l : Line) × (after ≡ before ++ l ∷ []) × (l.ticket ≡ ticket) × (l.caller ≡ caller)
 
+-- the law of a caller's own lines in its turn
 pub a_turn_adds_its_own : ATurnAddsItsOwn
 a_turn_adds_its_own ticket caller before after may = ⊎_elim (λ (e : after ≡ before). inl (ap (of_caller caller) e))
     (λ (l : Longer ticket caller before after). inr (

@@ -7,9 +7,11 @@ use Rattle.ecr_turn.specs.Journals.{IsBeginning, MayFollow, longer_of}
 use Rattle.ecr_model.proofs.lemmas.registry.GrowthLemmas.{Each-weaker, Each-right, Each-left, Each-both}
 use Rattle.ecr_turn.proofs.Views.{off}
 
+-- two numbers are at most c, and so is the greater
 pub max_least : (a b c : ℕ) → a ≤ c → b ≤ c → max a b ≤ c
 max_least a b c p q = omega arith
 
+-- a number is at most the greater of two
 pub max_left : (a b : ℕ) → a ≤ max a b
 max_left a b = omega arith
 
@@ -28,6 +30,7 @@ MayFollow-same ticket caller entries count before after may is was same = ⊎_el
     differ : entries ≡ length before + 1 → count ≡ length before → entries ≢ count
     differ a b e = omega arith
 
+-- a journal with another number of entries has the one of its turn
 pub MayFollow-longer : (ticket caller entries count : ℕ) (before after : List Line)
     → MayFollow ticket caller before after → entries ≡ length after → count ≡ length before
     → not (eqb entries count) ≡ true → Longer ticket caller before after
@@ -36,10 +39,12 @@ MayFollow-longer ticket caller entries count before after may is was grown =
     (off (sym (ap not (eq-eqb entries count (is ∙ (ap length e ∙ sym was)))) ∙ grown)))
     (λ (l : Longer ticket caller before after). l) may
 
+-- no journal is longer than the empty one is
 pub longer_of-nil : (xs : List Line) → longer_of xs [] ≡ xs
 longer_of-nil [] = refl
 longer_of-nil (x ∷ xs) = refl
 
+-- of a journal and a beginning of it the former is longer
 pub longer_of-grows : (xs news : List Line) → longer_of xs (xs ++ news) ≡ xs ++ news
 longer_of-grows [] news = refl
 longer_of-grows (x ∷ xs) news = ap (λ (z : List Line). x ∷ z) (longer_of-grows xs news)
@@ -48,6 +53,7 @@ longer_of-longer : (ys news : List Line) → longer_of (ys ++ news) ys ≡ ys ++
 longer_of-longer [] news = longer_of-nil news
 longer_of-longer (y ∷ ys) news = ap (λ (z : List Line). y ∷ z) (longer_of-longer ys news)
 
+-- a beginning of a journal adds nothing to it
 pub longer_of-keeps : (xs ys news : List Line) → xs ≡ ys ++ news → longer_of xs ys ≡ xs
 longer_of-keeps xs ys news e = ap (λ (z : List Line). longer_of z ys) e ∙ (longer_of-longer ys news ∙ sym e)
 
@@ -116,6 +122,7 @@ module _ (caller past other : ℕ) (seen ls log : List Line) (g : Grows caller p
   mine : Each Mine g.news
   mine = Each-both (λ l. l.caller ≢ caller) (λ l. past ≤ l.ticket) g.news g.others g.later
 
+  -- what a joined pass had seen has no entry of the caller that is new to it
   pub Grows-longer_of : Grows caller past seen (longer_of seen ls)
   Grows-longer_of = let r = longer_of-left seen g.news ls f.news together Mine mine in record {
     news = r.0;
@@ -124,11 +131,13 @@ module _ (caller past other : ℕ) (seen ls log : List Line) (g : Grows caller p
     later = Each-weaker Mine (λ l. past ≤ l.ticket) (λ l p. p.1) r.0 r.2;
   }
 
+  -- the longer journal follows what the joined pass had seen
   pub Follows-longer_of : Follows other ls (longer_of seen ls)
   Follows-longer_of = let r =
       longer_of-right seen g.news ls f.news together
       (λ l. other ≤ l.ticket) f.later in record { news = r.0; longer = r.1; later = r.2 }
 
+  -- the journal grows from what both passes had seen
   pub Grows-merged : Grows caller (max past other) (longer_of seen ls) log
   Grows-merged = let r = longer_of-splits Mine
       (λ l. other ≤ l.ticket) seen g.news ls f.news together mine f.later in record {

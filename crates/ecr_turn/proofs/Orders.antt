@@ -1,5 +1,5 @@
 -- What the steps of passes have in common, over plain numbers, lists and views.
-use Rattle.std.proofs.Common.{◌≡◌, ◌≢◌, ℕ, Bool, true, false, List, [], ◌++◌, set, Option, Some, None, refl, sym, ap, ◌∙◌, subst, ⊎_elim, inl}
+use Rattle.std.proofs.Common.{◌≡◌, ◌≢◌, ℕ, ◌<◌, ◌≤◌, Bool, true, false, List, [], ◌++◌, set, Option, Some, None, refl, sym, ap, ◌∙◌, subst, ⊎_elim, inl, arith}
 use mathlib.Core.Logic.{dite}
 use mathlib.Core.Option.{some, none}
 use mathlib.Core.Option as maybe
@@ -11,12 +11,15 @@ use Rattle.ecr_model.specs.declared.registry.journal.Frame.{Frame}
 use Rattle.ecr_turn.specs.declared.board.View.{View}
 use Rattle.ecr_turn.specs.declared.board.Stage.{Stage}
 use Rattle.ecr_turn.specs.declared.board.Stage.TheVariants.{Idle, Waits, Found, Holds, Recorded, Named, Joined, Spent}
+use Rattle.ecr_model.specs.registry.Growth.{Grows}
 use Rattle.ecr_turn.specs.Journals.{longer_of}
 use Rattle.ecr_turn.specs.Turns.{ticket_of, named_of, in_turn, has_recorded, is_live, joined_seen, HasTicket, HasNumber, HasSeen, SomeOne}
 use Rattle.ecr_turn.specs.Rule.{NoneOf, Suits, Order}
-use Rattle.ecr_turn.proofs.Views.{is_false, none_some, turn_ticket, set_at, same_view, set_each, One-kept}
+use Rattle.ecr_model.proofs.lemmas.registry.GrowthLemmas.{Follows-first}
+use Rattle.ecr_turn.proofs.Views.{off, is_false, none_some, turn_ticket, set_at, same_view, set_each, One-kept}
 use Rattle.ecr_turn.proofs.Journals.{longer_of-nil, longer_of-grows}
 
+-- a pass in its turn is live
 pub turn_live : (s : Stage) → in_turn s ≡ true → is_live s ≡ true
 turn_live Idle e = refl
 turn_live (Waits t) e = refl
@@ -27,6 +30,7 @@ turn_live (Named n) e = refl
 turn_live (Joined p ls) e = refl
 turn_live Spent e = e
 
+-- no pass was at such a stage before one moved from another
 pub NoneOf-before : (test : Stage → Bool) (vs : List View) (id : ℕ) (v w : View) → get_elem? vs id ≡ some v
     → test v.stage ≡ false → NoneOf test (set vs id w) → NoneOf test vs
 NoneOf-before test vs id v w at isn't all j u there =
@@ -35,12 +39,14 @@ NoneOf-before test vs id v w at isn't all j u there =
     (same_view vs id v u at (subst (λ (z : ℕ). get_elem? vs z ≡ some u) e there)) isn't)
     (λ ne. all j u (set_else vs id j w ne ∙ there))
 
+-- a pass that moves gains no number
 pub numbers_back : (m : ℕ) (v w : View) → is_live v.stage ≡ true → w.caller ≡ v.caller → named_of w.stage ≡ None
     → HasNumber m w → HasNumber m v
 numbers_back m v w live same unnamed h =
     ⊎_elim (λ (t : (is_live w.stage ≡ true) × (w.caller ≡ m)). inl (live, sym same ∙ t.1))
     (λ (e : named_of w.stage ≡ Some m). absurd (none_some m (sym unnamed ∙ e))) h
 
+-- where the pass that moved was like that, it still is
 pub Some-set : (P : View → Type 0) (vs : List View) (id : ℕ) (v w : View) → get_elem? vs id ≡ some v → (P v → P w)
     → SomeOne P vs → SomeOne P (set vs id w)
 Some-set P vs id v w at on h = dite (ℕ_discrete h.0 id)
@@ -80,6 +86,30 @@ given_over log vs id other b w z apart here there live holds plain news longer h
       ),
     ))
     (λ ne. (h.0, h.1, set_else vs other h.0 z ne ∙ h.2, h.3))
+
+-- the rule for a pass in no turn: the numbers that it knows, and its journal
+pub Suits-idle : (log : List Line) (n s k : ℕ) (fixed : Frame) (caller callers past : ℕ) (seen : List Line)
+    (frame : Frame) → (caller < k) × Grows caller past seen log → callers ≤ k → past ≤ s → frame ≡ fixed
+    → Suits log n s k fixed (record {
+      stage = Idle;
+      caller = caller;
+      callers = callers;
+      past = past;
+      seen = seen;
+      frame = frame;
+    })
+Suits-idle log n s k fixed caller callers past seen frame known aware behind framed = record {
+  known = λ _. known;
+  aware = aware;
+  behind = behind;
+  framed = λ _. framed;
+  drawn = λ t e. absurd (none_some t e);
+  served = λ t e _. absurd (off e);
+  whole = λ e. absurd (off e);
+  found = λ e. absurd (off e);
+  promised = λ m e. absurd (none_some m e);
+  joined = (omega arith, Follows-first _);
+}
 
 module _ {B : Type 0} (lines : B → List Line) (frame : B → Frame) (fixed : Frame) where
   abbrev Home : Type 0

@@ -13,7 +13,7 @@ use Rattle.ecr_turn.specs.declared.board.Stage.{Stage}
 use Rattle.ecr_turn.specs.declared.board.Stage.TheVariants.{Idle, Waits, Found, Holds, Recorded, Named, Joined, Spent}
 use Rattle.ecr_turn.specs.Turns.{named_of, in_turn, has_recorded, is_live, HasTicket, SomeOne, Numbers, ServesInOrder, HasOneJournal, TicketsRise, CallersDiffer, StateIsKept, SeesInTurn, SeesThePast, SevenPoints}
 use Rattle.ecr_turn.specs.Rule.{NoneOf, Order, Kept}
-use Rattle.ecr_turn.specs.Laws.{Shows}
+use Rattle.ecr_turn.specs.Laws.{IsTurnstile}
 use Rattle.ecr_turn.proofs.Views.{off, turn_ticket}
 use Rattle.ecr_model.proofs.lemmas.registry.GrowthLemmas.{Each-weaker, Rises-each}
 use Rattle.ecr_turn.proofs.Journals.{ordered}
@@ -141,9 +141,9 @@ module _ {B : Type 0} (lines : B → List Line) (frame : B → Frame) (fixed : F
   }
 
 -- the table of a turnstile at its numbers, with its passes and its journal
-pub Kept-shows : {B : Type 0} (lines : B → List Line) (frame : B → Frame) (fixed : Frame) (s : State (Option B) View)
-    → Kept lines frame fixed s → Shows lines frame fixed s
-Kept-shows lines frame fixed s r = record {
+pub IsTurnstile-kept : {B : Type 0} (lines : B → List Line) (frame : B → Frame) (fixed : Frame) (s : State (Option B) View)
+    → Kept lines frame fixed s → IsTurnstile lines frame fixed s
+IsTurnstile-kept lines frame fixed s r = record {
   numbers = record { entries = r.count; tickets = r.tickets; serving = r.serving; callers = r.callers };
   home = r.home;
   journal = r.order.log;

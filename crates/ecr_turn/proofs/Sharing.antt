@@ -38,6 +38,7 @@ Place-sync S s = Seat-sync (Option.the_row (Box.the_row S Heap.the_row ghosts)) 
 Inside-sync : (S : RattleType) (g : Ghosts S.Denot) → IsSend S → IsSync (inside.the_row S g)
 Inside-sync S g s = search (s, Place-sync, sendable, crosses) depth 60 fits 20000
 
+-- passes may be shared between threads
 pub Pass-sync : (S : RattleType) (g : Ghosts S.Denot) → IsSend S → IsSync (Pass.the_row S g)
 Pass-sync S g s = search (s, Inside-sync, sendable, crosses) depth 60 fits 20000
 
@@ -57,6 +58,7 @@ Within-sync : (l : NamedLft) (S : RattleType) (g : Ghosts S.Denot) → IsSend S 
 Within-sync l S g s y = recorded_sync (within.the_field l S g).row _ _ (within.the_type l S g).to_one
     (struct_sync (shape (within.the_type l S g)) (Held-sync l S g s, (Box-sync S y, tt)))
 
+-- turns may be shared between threads
 pub Turn-sync : (l : NamedLft) (S : RattleType) (g : Ghosts S.Denot) → IsSend S → IsSync S
     → IsSync (Turn.the_row l S g)
 Turn-sync l S g s y = view_sync (within.the_row l S g) _ _ _ _ (Within-sync l S g s y)

@@ -16,7 +16,7 @@ use Rattle.ecr_turn.specs.Steps.{waiting, finding, holding, having_recorded, gon
 use Rattle.ecr_turn.proofs.Views.{off, same_some, none_some, recorded_turn, learned_turn, found_turn, set_at, same_view, set_each, One-set, One-kept}
 use Rattle.ecr_model.proofs.lemmas.registry.GrowthLemmas.{Each-snoc, Follows-first, Follows-snoc, Rises-higher, Rises-snoc, Rises-length, Grows-none, Grows-snoc}
 use Rattle.ecr_turn.proofs.Journals.{longer_of-nil}
-use Rattle.ecr_turn.proofs.Orders.{turn_live, NoneOf-before, numbers_back, Some-set, still_seen, alone}
+use Rattle.ecr_turn.proofs.Orders.{Suits-idle, turn_live, NoneOf-before, numbers_back, Some-set, still_seen, alone}
 
 module _ {B : Type 0} (lines : B → List Line) (frame : B → Frame) (fixed : Frame) where
   abbrev Home : Type 0
@@ -25,6 +25,7 @@ module _ {B : Type 0} (lines : B → List Line) (frame : B → Frame) (fixed : F
   abbrev Rule : ℕ → ℕ → ℕ → ℕ → Home → List View → Type 0
   Rule = Order lines frame fixed
 
+  -- drawing a ticket
   pub draws : (c n s k : ℕ) (h : Home) (vs : List View) (o : Rule c n s k h vs) (id : ℕ) (v : View)
       → get_elem? vs id ≡ some v → v.stage ≡ Idle → suc n < 18446744073709551616
       → Rule c (suc n) s k h (set vs id (waiting n v))
@@ -79,6 +80,7 @@ module _ {B : Type 0} (lines : B → List Line) (frame : B → Frame) (fixed : F
       below : (t : ℕ) → t < suc n → n ≢ t → t < n
       below t lt ne = omega arith
 
+  -- finding the turn and the state
   pub finds : (c n s k : ℕ) (h : Home) (vs : List View) (o : Rule c n s k h vs) (id : ℕ) (v : View)
       → get_elem? vs id ≡ some v → v.stage ≡ Waits s
       → (b : B) × (h ≡ some (Some b)) × (frame b ≡ v.frame) × Rule c n s k none (set vs id (finding s (lines b) v))
@@ -127,6 +129,7 @@ module _ {B : Type 0} (lines : B → List Line) (frame : B → Frame) (fixed : F
         },
       )
 
+  -- seeing the journal of the state
   pub learns : (c n s k : ℕ) (h : Home) (vs : List View) (o : Rule c n s k h vs) (id : ℕ) (v : View)
       → get_elem? vs id ≡ some v → (t : ℕ) (ls : List Line) → v.stage ≡ Found t ls
       → (v.past ≤ t) × Grows v.caller v.past v.seen ls × Rises 0 ls t × Rule c n s k h (set vs id (holding t ls v))
@@ -181,6 +184,7 @@ module _ {B : Type 0} (lines : B → List Line) (frame : B → Frame) (fixed : F
         },
       )
 
+  -- counting the entry of the turn
   pub records : (c n s k : ℕ) (h : Home) (vs : List View) (o : Rule c n s k h vs) (id : ℕ) (v : View)
       → get_elem? vs id ≡ some v → (t : ℕ) (b : B) (l : Line) → v.stage ≡ Holds t
       → lines b ≡ v.seen ++ l ∷ [] → l.ticket ≡ t → l.caller ≡ v.caller → (suc c < 18446744073709551616)
@@ -269,6 +273,7 @@ module _ {B : Type 0} (lines : B → List Line) (frame : B → Frame) (fixed : F
         },
       )
 
+  -- passing the turn on
   pub passes : (c n s k : ℕ) (h : Home) (vs : List View) (o : Rule c n s k h vs) (id : ℕ) (v : View)
       → get_elem? vs id ≡ some v → (t : ℕ) (b : B) → has_learned v.stage ≡ true → HasTicket t v
       → lines b ≡ v.seen → frame b ≡ v.frame → (suc s < 18446744073709551616)
@@ -291,22 +296,12 @@ module _ {B : Type 0} (lines : B → List Line) (frame : B → Frame) (fixed : F
           rises = Rises-higher 0 o.log (suc s) (suc (suc s)) (omega arith) o.rises;
           unrecorded = λ _. o.rises;
           numbered = o.numbered;
-          each = set_each (Suits o.log n (suc s) k fixed) vs id w record {
-            known = λ _. (
-              known.0,
-              subst (λ (z : List Line). Grows v.caller (suc t) z o.log) (sym whole)
-                  (Grows-none v.caller (suc t) o.log),
-            );
-            aware = mine.aware;
-            behind = omega arith;
-            framed = λ _. mine.framed live;
-            drawn = λ u e. absurd (none_some u e);
-            served = λ u e _. absurd (off e);
-            whole = λ e. absurd (off e);
-            found = λ e. absurd (off e);
-            promised = λ m e. absurd (none_some m e);
-            joined = (omega arith, Follows-first _);
-          } (λ j u other there. let its =
+          each = set_each (Suits o.log n (suc s) k fixed) vs id w
+              (Suits-idle o.log n (suc s) k fixed v.caller v.callers (suc t) v.seen v.frame (
+                known.0,
+                subst (λ (z : List Line). Grows v.caller (suc t) z o.log) (sym whole)
+                    (Grows-none v.caller (suc t) o.log),
+              ) mine.aware (omega arith) (mine.framed live)) (λ j u other there. let its =
               o.each j u there in let out = nobody j u other there in let behind = its.behind in record {
                 known = its.known;
                 aware = its.aware;

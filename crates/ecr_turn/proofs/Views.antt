@@ -9,27 +9,34 @@ use Rattle.ecr_turn.specs.declared.board.Stage.TheVariants.{Idle, Waits, Found, 
 use Rattle.ecr_turn.specs.Turns.{ticket_of, in_turn, has_learned, is_found, has_recorded, One}
 use Rattle.ecr_turn.specs.Rule.{NoneOf}
 
+-- false is not true
 pub off : false ≡ true → ⊥
 off e = true≢false (sym e)
 
+-- what is not true is false
 pub is_false : (b : Bool) → (b ≡ true → ⊥) → b ≡ false
 is_false true no_ = absurd (no_ refl)
 is_false false no_ = refl
 
+-- the number, or another where there is none
 abbrev pub value_or : ℕ → Option ℕ → ℕ
 value_or d (Some n) = n
 value_or d None = d
 
+-- a number is there
 abbrev pub is_some : Option ℕ → Bool
 is_some (Some n) = true
 is_some None = false
 
+-- two numbers that are there are one
 pub same_some : (a b : ℕ) → Some a ≡ Some b → a ≡ b
 same_some a b e = ap (value_or 0) e
 
+-- none is no number
 pub none_some : (a : ℕ) → None ≡ Some a → ⊥
 none_some a e = off (ap is_some e)
 
+-- a pass in its turn has a ticket
 pub turn_ticket : (s : Stage) → in_turn s ≡ true → (t : ℕ) × (ticket_of s ≡ Some t)
 turn_ticket Idle e = absurd (off e)
 turn_ticket (Waits t) e = absurd (off e)
@@ -40,6 +47,7 @@ turn_ticket (Named n) e = absurd (off e)
 turn_ticket (Joined p ls) e = absurd (off e)
 turn_ticket Spent e = absurd (off e)
 
+-- a pass that has looked at the journal is in its turn
 pub learned_turn : (s : Stage) → has_learned s ≡ true → in_turn s ≡ true
 learned_turn Idle e = absurd (off e)
 learned_turn (Waits t) e = absurd (off e)
@@ -50,6 +58,7 @@ learned_turn (Named n) e = absurd (off e)
 learned_turn (Joined p ls) e = absurd (off e)
 learned_turn Spent e = absurd (off e)
 
+-- a pass that is to look at the journal is in its turn
 pub found_turn : (s : Stage) → is_found s ≡ true → in_turn s ≡ true
 found_turn Idle e = absurd (off e)
 found_turn (Waits t) e = absurd (off e)
@@ -60,6 +69,7 @@ found_turn (Named n) e = absurd (off e)
 found_turn (Joined p ls) e = absurd (off e)
 found_turn Spent e = absurd (off e)
 
+-- a pass in no turn has counted no entry
 pub recorded_turn : (s : Stage) → in_turn s ≡ false → has_recorded s ≡ false
 recorded_turn Idle e = refl
 recorded_turn (Waits t) e = refl
@@ -70,6 +80,7 @@ recorded_turn (Named n) e = refl
 recorded_turn (Joined p ls) e = refl
 recorded_turn Spent e = refl
 
+-- the view that was set stands at its place
 pub set_at : (l : List View) (i : ℕ) (a b : View) → get_elem? l i ≡ some a → get_elem? (set l i b) i ≡ some b
 set_at [] i a b e = absurd (some-ne-none a (sym e))
 set_at (x ∷ xs) zero a b e = refl
@@ -79,6 +90,7 @@ set_at (x ∷ xs) (suc i) a b e = set_at xs i a b e
 pub same_view : (l : List View) (i : ℕ) (v w : View) → get_elem? l i ≡ some v → get_elem? l i ≡ some w → v ≡ w
 same_view l i v w e f = some-injective v w (sym e ∙ f)
 
+-- each view has P where the one that was set has it, and the others
 pub set_each : (P : View → Type 0) (l : List View) (i : ℕ) (w : View) → P w
     → ((j : ℕ) (u : View) → j ≢ i → get_elem? l j ≡ some u → P u) → (j : ℕ) (u : View)
     → get_elem? (set l i w) j ≡ some u → P u
@@ -113,6 +125,7 @@ at_end (x ∷ xs) a b (suc j) e =
     ⊎_elim (λ (t : get_elem? xs j ≡ some b). inl t) (λ (t : (j ≡ length xs) × (a ≡ b)). inr (ap suc t.0, t.1))
     (at_end xs a b j e)
 
+-- each view has P where the last one has it, and the others
 pub snoc_each : (P : View → Type 0) (l : List View) (w : View) → P w
     → ((j : ℕ) (u : View) → get_elem? l j ≡ some u → P u) → (j : ℕ) (u : View) → get_elem? (l ++ w ∷ []) j ≡ some u
     → P u
@@ -120,6 +133,7 @@ snoc_each P l w mine others j u e =
     ⊎_elim (λ (t : get_elem? l j ≡ some u). others j u t) (λ (t : (j ≡ length l) × (w ≡ u)). subst P t.1 mine)
     (at_end l w u j e)
 
+-- one view at most has P, also with a last one that shares it with none
 pub One-snoc : (P : View → Type 0) (l : List View) (w : View) → One P l
     → ((j : ℕ) (u : View) → get_elem? l j ≡ some u → P u → P w → ⊥) → One P (l ++ w ∷ [])
 One-snoc P l w one apart j k u v ju kv pu pv =
@@ -130,5 +144,6 @@ One-snoc P l w one apart j k u v ju kv pu pv =
     (λ (t : (k ≡ length l) × (w ≡ v)). s.0 ∙ sym t.0) (at_end l w v k kv))
     (at_end l w u j ju)
 
+-- no view is at such a stage without the last one either
 pub NoneOf-shorter : (test : Stage → Bool) (l : List View) (w : View) → NoneOf test (l ++ w ∷ []) → NoneOf test l
 NoneOf-shorter test l w all j u there = all j u (at_longer l (w ∷ []) j u there)

@@ -13,7 +13,7 @@ use Rattle.ecr_turn.specs.Turns.{Numbers, SevenPoints}
 use Rattle.ecr_turn.specs.Rule.{Kept}
 
 -- the table is that of a turnstile at these numbers, with these passes and this journal
-pub record Shows {B : Type 0} (lines : B → List Line) (frame : B → Frame) (fixed : Frame)
+pub record IsTurnstile {B : Type 0} (lines : B → List Line) (frame : B → Frame) (fixed : Frame)
     (s : State (Option B) View) : Type 0 where
   pub numbers : Numbers
   pub home : maybe.Option (Option B)
@@ -25,7 +25,7 @@ pub record Shows {B : Type 0} (lines : B → List Line) (frame : B → Frame) (f
 -- of each table that keeps its rule the seven points hold
 abbrev pub TheRuleIsTheSevenPoints : {B : Type 0} → (B → List Line) → (B → Frame) → Type 0
 TheRuleIsTheSevenPoints {B} lines frame = (fixed : Frame) (s : State (Option B) View) → Kept lines frame fixed s
-    → Shows lines frame fixed s
+    → IsTurnstile lines frame fixed s
 
 -- the lines below a ticket that was passed on stand there in each later journal
 abbrev pub WhatStoodStays : Type 0

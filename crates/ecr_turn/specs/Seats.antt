@@ -31,8 +31,8 @@ module _ {B : Type 0} where
   IsOf table s = (s.table_id ≡ table) × (table.words ≡ 4)
 
   -- it is in no turn, and holds nothing
-  abbrev pub IsIdle : Seat (Option B) View → Type 0
-  IsIdle s = (s.me.0.stage ≡ Idle) × (s.me.1 ≡ [])
+  abbrev pub IsAtRest : Seat (Option B) View → Type 0
+  IsAtRest s = (s.me.0.stage ≡ Idle) × (s.me.1 ≡ [])
 
   -- a seat in the same table, of the same caller and frame, which forgets no number that was given out
   abbrev pub IsSameSeat : Seat (Option B) View → Seat (Option B) View → Type 0
@@ -61,7 +61,7 @@ module _ {B : Type 0} where
     pub framed : frame state ≡ s.me.0.frame
 
   -- the state is taken, and its journal is seen
-  pub record Takes (lines : B → List Line) (frame : B → Frame) (s t : Seat (Option B) View) (ticket : ℕ)
+  pub record TakesState (lines : B → List Line) (frame : B → Frame) (s t : Seat (Option B) View) (ticket : ℕ)
       (state : B) : Type 0 where
     pub me : t.me ≡ (holding ticket (lines state) s.me.0, (0, None) ∷ [])
     pub framed : frame state ≡ s.me.0.frame

@@ -69,9 +69,9 @@ gone_by t v = record {
 }
 
 -- the number of the caller that was named
-abbrev pub number_of : Stage → ℕ
-number_of (Named n) = n
-number_of _ = 0
+abbrev pub named_number : Stage → ℕ
+named_number (Named n) = n
+named_number _ = 0
 
 -- it has drawn a number for a caller to come
 abbrev pub naming : ℕ → View → View
@@ -99,7 +99,7 @@ settled v = record {
 abbrev pub newborn : View → View
 newborn v = record {
   stage = Idle;
-  caller = number_of v.stage;
+  caller = named_number v.stage;
   callers = v.callers;
   past = v.past;
   seen = v.seen;
@@ -134,8 +134,8 @@ merged v = record {
 
 module _ {B : Type 0} where
   -- the number of a caller to come, whom no entry names, and which the pass didn't know to be given out
-  abbrev pub named : At B → Mine B → ℕ → Mine B → Type 0
-  named st m r m' = (r ≡ st.first → (m' ≡ (naming r m.0, m.1)) × (r ≢ m.0.caller) × Each (λ l. l.caller ≢ r) m.0.seen
+  abbrev pub drew_number : At B → Mine B → ℕ → Mine B → Type 0
+  drew_number st m r m' = (r ≡ st.first → (m' ≡ (naming r m.0, m.1)) × (r ≢ m.0.caller) × Each (λ l. l.caller ≢ r) m.0.seen
       × (m.0.callers ≤ r)) × (r ≢ st.first → m' ≡ m)
 
   -- the joined pass is taken in: the longer journal, and the greater `past`

@@ -12,5 +12,5 @@ pub trait Journal {
 
     /// The number of its entries.
     fn entries(&self) -> u64
-        ensures { result ≡ length (lines self.now) };
+        ensures count { result ≡ length (lines self.now) };
 }

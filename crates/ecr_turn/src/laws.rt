@@ -7,25 +7,25 @@ use crate::journal::Journal;
 
 /// Of each table that keeps the rule of a turnstile the seven points hold.
 pub fn the_rule_is_the_seven_points<S: Journal>()
-    ensures { TheRuleIsTheSevenPoints (λ (b : Box S Global). S.lines b.value) (λ (b : Box S Global). S.frame b.value) }
+    ensures points { TheRuleIsTheSevenPoints (λ (b : Box S Global). S.lines b.value) (λ (b : Box S Global). S.frame b.value) }
 {}
 
 /// What stood below a ticket that was passed on stands there in every later journal.
 pub fn what_stood_stays()
-    ensures { WhatStoodStays }
+    ensures stays { WhatStoodStays }
 {}
 
 /// What others add leaves a caller's own lines as they were.
 pub fn others_add_none_of_mine()
-    ensures { OthersAddNoneOfMine }
+    ensures unchanged { OthersAddNoneOfMine }
 {}
 
 /// A turn adds nothing to its caller's own lines, or its one entry at their end.
 pub fn a_turn_adds_its_own()
-    ensures { ATurnAddsItsOwn }
+    ensures own { ATurnAddsItsOwn }
 {}
 
 /// Passes that are split one after another from one pass have rising numbers, so that no two are the same.
 pub fn splits_rise()
-    ensures { SplitsRise }
+    ensures rise { SplitsRise }
 {}

@@ -1,5 +1,5 @@
 // What each step tells the one who makes it.
-ghost use Rattle.ecr_turn.specs.Steps.{drew, looked, learned, recorded, passed_on, named, took_in, settled, newborn, joining, spent};
+ghost use Rattle.ecr_turn.specs.Steps.{drew, looked, learned, recorded, passed_on, drew_number, took_in, settled, newborn, joining, spent};
 
 use crate::board::View;
 use crate::journal::Journal;
@@ -50,7 +50,7 @@ impl<S> Play<Option<Box<S, Global>>, View> for PassOn {
 pub struct Name;
 
 impl<S> Play<Option<Box<S, Global>>, View> for Name {
-    ghost then = { named };
+    ghost then = { drew_number };
 }
 
 /// A pass for that caller is split off.

@@ -45,7 +45,7 @@ impl Journal for Register {
 impl Register {
     // It is 0, and was never set.
     pub(crate) fn new(alloc: Global) -> Register
-        ensures { result ≡ [] }
+        ensures empty { result ≡ [] }
     {
         Register {
             value: 0,
@@ -96,7 +96,7 @@ pub(crate) fn get<R: Wait>(
     turnstile: &Turnstile<Register>,
     pass: Pass<Register>,
 ) -> (u64, u64, Pass<Register>)
-    requires { pass.gate ≡ turnstile.now }
+    requires of { pass.gate ≡ turnstile.now }
     ensures pass { IsSamePass pass result.2 }
     ensures fresh { (pass.past ≤ result.1) × (result.2.past ≡ result.1 + 1) }
     ensures grows { Grows pass.caller pass.past pass.seen result.2.seen }
@@ -117,7 +117,7 @@ pub(crate) fn set<R: Wait>(
     pass: Pass<Register>,
     number: u64,
 ) -> (Result<(), Mem>, Pass<Register>)
-    requires { pass.gate ≡ turnstile.now }
+    requires of { pass.gate ≡ turnstile.now }
     ensures pass { IsSamePass pass result.1 }
     ensures set { OnOk result.0 (value_of result.1.seen ≡ number) }
     ensures err { OnErr result.0 (Grows pass.caller pass.past pass.seen result.1.seen) }
@@ -149,14 +149,14 @@ impl Model for Reader {
 
 impl Reader {
     pub(crate) fn of(pass: Pass<Register>) -> Reader
-        ensures { result ≡ pass }
+        ensures pass { result ≡ pass }
     {
         Reader { pass: Some(pass) }
     }
 
     // The number, with the ticket at which it was that.
     pub(crate) fn get<R: Wait>(&mut self, rt: &R, turnstile: &Turnstile<Register>) -> (u64, u64)
-        requires { self.old.gate ≡ turnstile.now }
+        requires of { self.old.gate ≡ turnstile.now }
         ensures pass { IsSamePass self.old self.new }
         ensures fresh { (self.old.past ≤ result.1) × (self.new.past ≡ result.1 + 1) }
         ensures value { result.0 ≡ value_of (below result.1 self.new.seen) }

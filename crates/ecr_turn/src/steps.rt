@@ -4,7 +4,7 @@ ghost use Rattle.ecr_turn.specs.declared.board.Stage.TheVariants.{Idle, Waits};
 ghost use Rattle.ecr_model.specs.registry.Growth.{Each, Grows, Follows};
 ghost use Rattle.ecr_turn.specs.Journals.{IsBeginning, longer_of};
 ghost use Rattle.ecr_turn.specs.Steps.{waiting, naming};
-ghost use Rattle.ecr_turn.specs.Seats.{Lone, IsOf, IsIdle, IsSameSeat, IsBack, Finds, Takes, Sees, IsSettled, known_of};
+ghost use Rattle.ecr_turn.specs.Seats.{Lone, IsOf, IsAtRest, IsSameSeat, IsBack, Finds, TakesState, Sees, IsSettled, known_of};
 
 use crate::board::{Board, Place};
 use crate::journal::Journal;
@@ -43,8 +43,8 @@ pub(crate) fn one_slot<S>(alloc: Global, state: S) -> Result<Vec<Option<Box<S, G
 
 // The state out of that list.
 pub(crate) fn out_of_slot<S>(mut slots: Vec<Option<Box<S, Global>>>) -> S
-    requires { Lone (λ b. Unit {0}) slots.items }
-    ensures { Lone (λ b. b.value ≡ result) slots.items }
+    requires one { Lone (λ b. Unit {0}) slots.items }
+    ensures state { Lone (λ b. b.value ≡ result) slots.items }
 {
     let state = slots.pop().unwrap().unwrap();
     slots.destroy_empty();
@@ -56,7 +56,8 @@ pub(crate) fn out_of_slot<S>(mut slots: Vec<Option<Box<S, Global>>>) -> S
 pub(crate) fn draw<S: Journal, R: Wait>(board: &Board<S>, rt: &R, seat: &mut Place<S>) -> u64
     requires of { IsOf board.now.shared.table_id seat.old }
     requires idle { seat.old.me.0.stage ≡ Idle }
-    ensures { (seat.new.table_id ≡ seat.old.table_id) × (seat.new.me ≡ (waiting result seat.old.me.0, seat.old.me.1)) }
+    ensures pass { seat.new.table_id ≡ seat.old.table_id }
+    ensures waits { seat.new.me ≡ (waiting result seat.old.me.0, seat.old.me.1) }
 {
     for _ in rt.forever() {
         let next = board.shared.peek(1);
@@ -112,7 +113,7 @@ pub(crate) fn take<S: Journal, R: Wait>(
     requires of { IsOf board.now.shared.table_id seat.old }
     requires waits { (seat.old.me.0.stage ≡ Waits ticket) × (seat.old.me.1 ≡ []) }
     ensures pass { seat.new.table_id ≡ seat.old.table_id }
-    ensures taken { Takes (λ b. S.lines b.value) (λ b. S.frame b.value) seat.old seat.new ticket result }
+    ensures taken { TakesState (λ b. S.lines b.value) (λ b. S.frame b.value) seat.old seat.new ticket result }
 {
     wait(board, rt, seat, ticket);
     let state = board.shared.exchange(seat, 0, None).unwrap();
@@ -150,10 +151,10 @@ pub(crate) fn fork<S: Journal, R: Wait>(
     seat: &mut Place<S>,
 ) -> (u64, Place<S>)
     requires of { IsOf board.now.shared.table_id seat.old }
-    requires idle { IsIdle seat.old }
-    ensures kept { (known_of seat.new ≡ record (known_of seat.old) { callers = result.0 + 1 }) × IsIdle seat.new }
+    requires idle { IsAtRest seat.old }
+    ensures kept { (known_of seat.new ≡ record (known_of seat.old) { callers = result.0 + 1 }) × IsAtRest seat.new }
     ensures given { (known_of result.1 ≡ record (known_of seat.old) { caller = result.0; callers = result.0 + 1 })
-        × IsIdle result.1 }
+        × IsAtRest result.1 }
     ensures new { (result.0 ≢ seat.old.me.0.caller) × Each (λ l. l.caller ≢ result.0) seat.old.me.0.seen }
     ensures unused { seat.old.me.0.callers ≤ result.0 }
 {
@@ -162,11 +163,11 @@ pub(crate) fn fork<S: Journal, R: Wait>(
     (caller, other)
 }
 
-// Takes another seat in, with what it has seen.
+// TakesState another seat in, with what it has seen.
 pub(crate) fn absorb<S: Journal>(board: &Board<S>, seat: &mut Place<S>, other: Place<S>)
-    requires one { IsOf board.now.shared.table_id seat.old × IsIdle seat.old }
-    requires two { IsOf board.now.shared.table_id other × IsIdle other }
-    ensures pass { IsSameSeat seat.old seat.new × IsIdle seat.new }
+    requires one { IsOf board.now.shared.table_id seat.old × IsAtRest seat.old }
+    requires two { IsOf board.now.shared.table_id other × IsAtRest other }
+    ensures pass { IsSameSeat seat.old seat.new × IsAtRest seat.new }
     ensures callers { seat.new.me.0.callers ≡ max seat.old.me.0.callers other.me.0.callers }
     ensures past { seat.new.me.0.past ≡ max seat.old.me.0.past other.me.0.past }
     ensures seen { seat.new.me.0.seen ≡ longer_of seat.old.me.0.seen other.me.0.seen }
@@ -194,7 +195,7 @@ fn settle<S: Journal>(board: &Board<S>, seat: &mut Place<S>, ticket: u64, grown:
 pub(crate) fn pass_on<S: Journal>(board: &Board<S>, seat: &mut Place<S>, ticket: u64, grown: bool)
     requires of { IsOf board.now.shared.table_id seat.old }
     requires back { IsBack (λ b. S.lines b.value) (λ b. S.frame b.value) seat.old ticket grown }
-    ensures pass { IsSameSeat seat.old seat.new × IsIdle seat.new × (seat.new.me.0.past ≡ ticket + 1) }
+    ensures pass { IsSameSeat seat.old seat.new × IsAtRest seat.new × (seat.new.me.0.past ≡ ticket + 1) }
     ensures seen { Sees (λ b. S.lines b.value) seat.old.me.1 seat.new.me.0.seen }
 {
     settle(board, seat, ticket, grown);

@@ -48,11 +48,11 @@ impl<S: Journal> Model for Pass<S> {
 
     ghost Value = { Known };
 
-    ghost use Rattle.ecr_turn.specs.Seats.{known_of, IsIdle};
+    ghost use Rattle.ecr_turn.specs.Seats.{known_of, IsAtRest};
 
     ghost view = { λ p. known_of p.seat };
 
-    ghost invariant = { λ p. IsIdle p.seat × (p.caller ≡ p.seat.me.0.caller) × (p.caller < p.seat.me.0.callers) };
+    ghost invariant = { λ p. IsAtRest p.seat × (p.caller ≡ p.seat.me.0.caller) × (p.caller < p.seat.me.0.callers) };
 }
 
 // What a turn keeps beside the state.
@@ -89,7 +89,7 @@ impl<'a, S: Journal> Model for Turn<'a, S> {
 impl<S: Journal> Turnstile<S> {
     /// A turnstile with this state, whose journal is empty, and its first pass.
     pub fn new(alloc: Global, state: S) -> Result<(Turnstile<S>, Pass<S>), (S, Mem)>
-        requires { S.lines state ≡ [] }
+        requires fresh { S.lines state ≡ [] }
         ensures frame { IfOk result (λ r. r.0.frame ≡ S.frame state) }
         ensures pass { IfOk result (λ r. r.1 ≡ first_pass r.0) }
         ensures err { IfErr result (λ e. e.0 ≡ state) }
@@ -147,7 +147,7 @@ impl<S: Journal> Turnstile<S> {
         Ok(Pass { seat, caller })
     }
 
-    /// Takes in what another pass has seen: the pass has then seen the longer of the two journals, and has the greater
+    /// TakesState in what another pass has seen: the pass has then seen the longer of the two journals, and has the greater
     /// `past` and number of callers.
     pub fn join(&self, pass: &mut Pass<S>, other: Pass<S>)
         requires of { (pass.old.gate ≡ self.now) × (other.gate ≡ self.now) }
@@ -176,14 +176,14 @@ impl<S: Journal> Pass<S> {
 impl<'a, S: Journal> Turn<'a, S> {
     /// The ticket, which is above those of all entries that the turn began with.
     pub fn ticket(&self) -> u64
-        ensures { result ≡ self.now.ticket }
+        ensures ticket { result ≡ self.now.ticket }
     {
         self.held.ticket
     }
 
     /// The state.
     pub fn value(&self) -> &S
-        ensures { result.now ≡ self.now.state }
+        ensures value { result.now ≡ self.now.state }
     {
         &self.state
     }

@@ -1,5 +1,5 @@
-use Rattle.ecr_turn.proofs.Points.{Kept-shows}
+use Rattle.ecr_turn.proofs.Points.{IsTurnstile-kept}
 use Rattle.ecr_turn.proofs.laws.the_rule_is_the_seven_points.Goals as goal
 
 pub returns : goal.returns
-returns g c = Kept-shows _ _
+returns g c = record { points = IsTurnstile-kept _ _ }
