@@ -5,7 +5,7 @@ use Rattle.std.specs.Str.Parse.{ParsesUnsigned}
 use Rattle.std.proofs.lemmas.Bool.{and_parts, cond-false}
 use Rattle.std.proofs.lemmas.Bool.Decides.{nat_tests}
 use Rattle.std.proofs.lemmas.Str.Parse.{IsNumeralModel, IsDigitsTest, FoldsDigits, numerals_by_fold, parse_digits}
-use Rattle.ecr_model.specs.requests.Members.{digits_value, is_decimal, place_of}
+use Rattle.ecr_model.specs.requests.Members.{digits_value, is_decimal, token_place}
 use Rattle.ecr_model.specs.names.Sites.{is_digit}
 
 is_test : IsDigitsTest (λ ds. list_all is_digit ds ≡ true)
@@ -32,29 +32,29 @@ decimal-digits (c ∷ rest) e =
 
 -- the place of a decimal
 of_decimal : (text : List ℕ) → is_decimal text ≡ true
-    → place_of text ≡ cond (nat_lt (digits_value text) (2 ^ 63)) (Some (digits_value text)) None
-unfolding place_of
+    → token_place text ≡ cond (nat_lt (digits_value text) (2 ^ 63)) (Some (digits_value text)) None
+unfolding token_place
 of_decimal text e = rw e refl
 
 -- what is no decimal is no place
-pub place_of-other : (text : List ℕ) → is_decimal text ≡ false → place_of text ≡ None
-unfolding place_of
-place_of-other text e = rw e refl
+pub token_place-other : (text : List ℕ) → is_decimal text ≡ false → token_place text ≡ None
+unfolding token_place
+token_place-other text e = rw e refl
 
 -- a decimal that is read as a number is the place of that number
-pub place_of-Ok : {E : Type 0} (text : List ℕ) (r : Result ℕ E) (n : ℕ) → ParsesUnsigned 64 10 text r → r ≡ Ok n
+pub token_place-Ok : {E : Type 0} (text : List ℕ) (r : Result ℕ E) (n : ℕ) → ParsesUnsigned 64 10 text r → r ≡ Ok n
     → is_decimal text ≡ true
-    → place_of text ≡ cond (nat_lt n (2 ^ 63)) (Some n) None
-place_of-Ok text r n parses is e =
+    → token_place text ≡ cond (nat_lt n (2 ^ 63)) (Some n) None
+token_place-Ok text r n parses is e =
     let digits = decimal-digits text e in
     let told = parse_digits own 64 text r parses digits.0 in
     let same : n ≡ digits_value text = (rw is at told).1 in
     of_decimal text e ∙ ap (λ m. cond (nat_lt m (2 ^ 63)) (Some m) None) (sym same)
 
 -- and one that isn't read is too great
-pub place_of-Err : {E : Type 0} (text : List ℕ) (r : Result ℕ E) (e : E) → ParsesUnsigned 64 10 text r → r ≡ Err e
-    → is_decimal text ≡ true → place_of text ≡ None
-place_of-Err text r e parses is d =
+pub token_place-Err : {E : Type 0} (text : List ℕ) (r : Result ℕ E) (e : E) → ParsesUnsigned 64 10 text r → r ≡ Err e
+    → is_decimal text ≡ true → token_place text ≡ None
+token_place-Err text r e parses is d =
     let digits = decimal-digits text d in
     let told = rw is at (parse_digits own 64 text r parses digits.0) in
     let large : digits_value text < 2 ^ 63 → ⊥ = λ below. told (digits.1, omega arith) in

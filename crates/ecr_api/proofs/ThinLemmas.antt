@@ -16,7 +16,7 @@ use Rattle.ecr_model.specs.declared.requests.refusal.Parameter.{Parameter}
 use Rattle.ecr_model.specs.declared.requests.refusal.Refusal.TheVariants.{Serialization}
 use Rattle.ecr_model.specs.requests.Actions.{Reading, refuses, members_of, made_by, unless_bad, values_reading, typed_reading, body_reading}
 use Rattle.ecr_model.specs.requests.Members as model
-use Rattle.ecr_model.specs.requests.Members.{Typed, absent, text, whole, truth, texts, Valued, valued, unless_null, member_at, all_texts, as_whole, typed, typed_member, all_typed, typed_members, named_value, value_at, is_there, text_in, whole_in, truth_in, texts_in, site_of, place_of, rows_of, mutability_of, are_names, allows, stands_beside, is_bad, first_bad}
+use Rattle.ecr_model.specs.requests.Members.{Typed, absent, text, whole, truth, texts, Valued, valued, unless_null, member_at, all_texts, as_whole, typed, typed_member, all_typed, typed_members, named_value, value_at, is_there, text_in, whole_in, truth_in, texts_in, site_of_account, token_place, rows_of, mutability_of, are_names, allows, stands_beside, is_bad, first_bad}
 use Rattle.ecr_model.specs.names.Names.{is_name}
 use Rattle.ecr_model.specs.documents.Policies.{texts_of}
 use Rattle.ecr_model.specs.requests.Refusals.{parameter_text}
@@ -226,13 +226,13 @@ not_bad false b e = absurd (true≢false e)
 module _ (base : SiteId) (served : List SiteId) where
   -- what is kept of a value is in its domain where the value is
   allows-cut : (domain : Domain) (v : Typed) → allows base served domain (cut v) ≡ allows base served domain v
-  allows-cut domains.Account v = ap (λ o. is_some (option_and_then (site_of base served) o)) (text_in-cut v)
+  allows-cut domains.Account v = ap (λ o. is_some (option_and_then (site_of_account base served) o)) (text_in-cut v)
   allows-cut domains.RepositoryName v = ap (λ o. option_map_or is_name o false) (text_in-cut v)
   allows-cut domains.RepositoryNames v = names-cut v
   allows-cut domains.Mutability v = ap (λ o. is_some (option_and_then mutability_of o)) (text_in-cut v)
   allows-cut domains.Truth v = ap is_some (truth_in-cut v)
   allows-cut domains.Results v = ap (λ o. is_some (option_and_then rows_of o)) (whole_in-cut v)
-  allows-cut domains.Token v = ap (λ o. is_some (option_and_then place_of o)) (text_in-cut v)
+  allows-cut domains.Token v = ap (λ o. is_some (option_and_then token_place o)) (text_in-cut v)
 
   -- a list of texts that is allowed is kept whole
   allowed_whole : (domain : Domain) (ts : List (List ℕ)) → allows base served domain (texts ts) ≡ true

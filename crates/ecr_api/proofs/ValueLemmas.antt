@@ -15,7 +15,7 @@ use Rattle.ecr_model.specs.names.Names.{is_name}
 use Rattle.ecr_model.specs.documents.Policies.{texts_of}
 use Rattle.ecr_api.specs.Readings.{AreApart, AreMembers, IsMemberOrNone}
 use Rattle.ecr_api.specs.declared.values.Valued as kept
-use Rattle.ecr_api.specs.Values.{item_text, member_as, row_of, valued_of}
+use Rattle.ecr_api.specs.Values.{item_text, member_as, valued_members, valued_of}
 
 -- the value of what was read of a member
 abbrev pub read_as : {A : Type 0} → (A → Option Typed) → Field A → Option Typed
@@ -47,9 +47,9 @@ pub option_map-behind : (old : List Valued) (v : Valued) (o : Option (List Value
 option_map-behind old v None = refl
 option_map-behind old v (Some more) = ap Some (sym (append_assoc old (v ∷ []) more))
 
-row_of-append : (xs ys : List kept.Valued) → row_of (xs ++ ys) ≡ row_of xs ++ row_of ys
-row_of-append [] ys = refl
-row_of-append (x ∷ xs) ys = ap (λ l. valued_of x ∷ l) (row_of-append xs ys)
+valued_members-append : (xs ys : List kept.Valued) → valued_members (xs ++ ys) ≡ valued_members xs ++ valued_members ys
+valued_members-append [] ys = refl
+valued_members-append (x ∷ xs) ys = ap (λ l. valued_of x ∷ l) (valued_members-append xs ys)
 
 one_more : (old : List Valued) (v : Valued) (m : Member) (o : Option Typed) (rest : Option (List Valued))
     → Some v ≡ option_map (valued m) o
@@ -63,11 +63,11 @@ one_more old v m (Some t) rest e =
 
 all_typed-cons : (old : List kept.Valued) (v : kept.Valued) (m : Member) (ms : List Member) (body : Data)
     → Some (valued_of v) ≡ option_map (valued m) (typed_member body m)
-    → option_map (λ more. row_of old ++ more) (all_typed (m ∷ ms) body) ≡ option_map
-    (λ more. row_of (old ++ v ∷ []) ++ more) (all_typed ms body)
+    → option_map (λ more. valued_members old ++ more) (all_typed (m ∷ ms) body) ≡ option_map
+    (λ more. valued_members (old ++ v ∷ []) ++ more) (all_typed ms body)
 all_typed-cons old v m ms body e =
-    one_more (row_of old) (valued_of v) m (typed_member body m) (all_typed ms body) e
-    ∙ ap (λ l. option_map (λ more. l ++ more) (all_typed ms body)) (sym (row_of-append old (v ∷ [])))
+    one_more (valued_members old) (valued_of v) m (typed_member body m) (all_typed ms body) e
+    ∙ ap (λ l. option_map (λ more. l ++ more) (all_typed ms body)) (sym (valued_members-append old (v ∷ [])))
 
 take-whole : (ms : List Member) → take (length ms) ms ≡ ms
 take-whole [] = refl
@@ -76,14 +76,14 @@ take-whole (m ∷ ms) = ap (λ l. m ∷ l) (take-whole ms)
 -- the first of the members is read, and the rest stands behind it
 pub all_typed-first : (old : List kept.Valued) (v : kept.Valued) (ms : List Member) (d : Member) (body : Data)
     → 1 ≤ length ms → Some (valued_of v) ≡ option_map (valued (get_or ms 0 d)) (typed_member body (get_or ms 0 d))
-    → option_map (λ more. row_of old ++ more) (all_typed ms body) ≡ option_map
-    (λ more. row_of (old ++ v ∷ []) ++ more) (all_typed (slice_range ms 1 (length ms)) body)
+    → option_map (λ more. valued_members old ++ more) (all_typed ms body) ≡ option_map
+    (λ more. valued_members (old ++ v ∷ []) ++ more) (all_typed (slice_range ms 1 (length ms)) body)
 all_typed-first old v [] d body some e = absurd (let never : ⊥ = omega (arith, some) in never)
 all_typed-first old v (m ∷ ms) d body some e =
     let size : length (m ∷ ms) - 1 ≡ length ms = omega arith in
     let rest : slice_range (m ∷ ms) 1 (length (m ∷ ms)) ≡ ms = ap (λ n. take n ms) size ∙ take-whole ms in
     all_typed-cons old v m ms body e ∙ ap
-    (λ l. option_map (λ more. row_of (old ++ v ∷ []) ++ more) (all_typed l body)) (sym rest)
+    (λ l. option_map (λ more. valued_members (old ++ v ∷ []) ++ more) (all_typed l body)) (sym rest)
 
 -- where one of the members stands apart from another, that is a member
 valued_apart : (m : Member) (o : Option Typed) (rest : Option (List Valued)) (values : List Valued)

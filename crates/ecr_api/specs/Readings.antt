@@ -27,10 +27,10 @@ LoadFits (Site site call) = Unit {0}
 LoadFits (Many site names page) = Unit {0}
 
 -- the reading asks for this, or refuses the body like that; of a want of memory nothing is said
-abbrev pub Reads : Result Asked ApiRefusal → actions.Reading → Type 0
-Reads (Ok asked) reading = reading ≡ actions.asks (meaning asked)
-Reads (Err (Refused refusal)) reading = reading ≡ actions.refuses refusal
-Reads (Err Mem) reading = Unit {0}
+abbrev pub HasReading : Result Asked ApiRefusal → actions.Reading → Type 0
+HasReading (Ok asked) reading = reading ≡ actions.asks (meaning asked)
+HasReading (Err (Refused refusal)) reading = reading ≡ actions.refuses refusal
+HasReading (Err Mem) reading = Unit {0}
 
 -- the parameter is a member of a body, and no text in one
 abbrev pub IsMember : Parameter → Type 0

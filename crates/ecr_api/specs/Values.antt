@@ -31,8 +31,8 @@ abbrev pub valued_of : Valued → members.Valued
 valued_of v = record { name = v.name.now; member = v.member; value = typed_of v.value }
 
 -- the members of a body with their values
-abbrev pub row_of : List Valued → List members.Valued
-row_of values = map valued_of values
+abbrev pub valued_members : List Valued → List members.Valued
+valued_members values = map valued_of values
 
 -- the value of the member of that name, where it is read so
 abbrev pub member_as : (Data → Option members.Typed) → List ℕ → Data → Option members.Typed

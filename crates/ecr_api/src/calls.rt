@@ -1,11 +1,11 @@
 // The call that the values of a body's members make (Amazon ECR API Reference, "Actions").
 ghost use Rattle.std.specs.Prelude.{◌≡◌, IfOk, map, option_map, unwrap_or};
 ghost use Rattle.ecr_model.specs.requests.Actions as actions;
-ghost use Rattle.ecr_model.specs.requests.Actions.{asks, force_in, key_in, made_by, made_in, mutability_in, names_in, page_in, site_in, text_at};
+ghost use Rattle.ecr_model.specs.requests.Actions.{asks, force_in, key_in, made_by, made_in, mutability_in, names_in, page_in, site_in, text_of_parameter};
 ghost use Rattle.ecr_blob_upload.specs.declared.call.Load.TheVariants.{Nothing};
 ghost use Rattle.ecr_api.specs.declared.asked.Asked.TheVariants.{Cell, Many};
 ghost use Rattle.ecr_api.specs.Readings.{meaning, FitsMade, IsMember, LoadFits};
-ghost use Rattle.ecr_api.specs.Values.{item_text, made_of, row_of};
+ghost use Rattle.ecr_api.specs.Values.{item_text, made_of, valued_members};
 
 use crate::Asked;
 use crate::domains::{item_text, mutability_of, place_of, rows_of, site_of};
@@ -39,7 +39,7 @@ pub(crate) fn made_by(
     values: &[Valued<'_>],
 ) -> Result<Asked, Mem>
     ensures exact { IfOk result
-        (λ asked. asks (meaning asked) ≡ made_by base.now served.now action (row_of values.now)) }
+        (λ asked. asks (meaning asked) ≡ made_by base.now served.now action (valued_members values.now)) }
     ensures fits { IfOk result LoadFits }
 {
     match made_in(action, values) {
@@ -51,7 +51,7 @@ pub(crate) fn made_by(
 /// What the values of an action's members make.
 #[tactic(auto, unfolding(ecr_model::specs::requests::Actions::made_in))]
 fn made_in(action: Action, values: &[Valued<'_>]) -> Made
-    ensures exact { made_of result ≡ made_in action (row_of values.now) }
+    ensures exact { made_of result ≡ made_in action (valued_members values.now) }
     ensures fits { FitsMade result }
 {
     match action {
@@ -76,7 +76,8 @@ fn one(
     values: &[Valued<'_>],
     call: Call,
 ) -> Result<Asked, Mem>
-    ensures { IfOk result (λ asked. asked ≡ Cell (key_in base.now served.now (row_of values.now)) call Nothing) }
+    ensures { IfOk result
+        (λ asked. asked ≡ Cell (key_in base.now served.now (valued_members values.now)) call Nothing) }
 {
     let key = key_in(alloc, base, served, values)?;
     Ok(Asked::Cell {
@@ -94,7 +95,7 @@ fn several(
     values: &[Valued<'_>],
 ) -> Result<Asked, Mem>
     ensures { IfOk result (λ asked. asked ≡
-        (let vs = row_of values.now in Many (site_in base.now served.now vs) (names_in vs) (page_in vs))) }
+        (let vs = valued_members values.now in Many (site_in base.now served.now vs) (names_in vs) (page_in vs))) }
 {
     let site = site_in(base, served, values).clone()?;
     let names = names_in(alloc, values)?;
@@ -112,7 +113,7 @@ fn key_in(
     served: &[SiteId],
     values: &[Valued<'_>],
 ) -> Result<RepoKey, Mem>
-    ensures { IfOk result (λ key. key ≡ key_in base.now served.now (row_of values.now)) }
+    ensures { IfOk result (λ key. key ≡ key_in base.now served.now (valued_members values.now)) }
 {
     let site = site_in(base, served, values).clone()?;
     let text = text_at(Parameter::RepositoryName, values).unwrap_or("");
@@ -122,7 +123,7 @@ fn key_in(
 
 /// The site that `registryId` names, or else that to which the request came.
 fn site_in<'a>(base: &'a SiteId, served: &'a [SiteId], values: &[Valued<'_>]) -> &'a SiteId
-    ensures { result.now ≡ site_in base.entry.now served.entry.now (row_of values.now) }
+    ensures { result.now ≡ site_in base.entry.now served.entry.now (valued_members values.now) }
 {
     match text_at(Parameter::RegistryId, values) {
         Some(text) => site_or(base, site_of(base, served, text.as_bytes())),
@@ -143,14 +144,14 @@ fn site_or<'a>(base: &'a SiteId, site: Option<&'a SiteId>) -> &'a SiteId
 /// The text of a parameter, where it is there.
 fn text_at<'a>(parameter: Parameter, values: &[Valued<'a>]) -> Option<&'a str>
     requires { IsMember parameter }
-    ensures { option_map (λ t. t.now) result ≡ text_at parameter (row_of values.now) }
+    ensures { option_map (λ t. t.now) result ≡ text_of_parameter parameter (valued_members values.now) }
 {
     text_in(&value_at(parameter, values))
 }
 
 /// `imageTagMutability`, where it is there; else tags may move.
 fn mutability_in(values: &[Valued<'_>]) -> Mutability
-    ensures { result ≡ mutability_in (row_of values.now) }
+    ensures { result ≡ mutability_in (valued_members values.now) }
 {
     match text_at(Parameter::ImageTagMutability, values) {
         Some(text) => mutability_of(text).unwrap_or(Mutability::Mutable),
@@ -160,14 +161,14 @@ fn mutability_in(values: &[Valued<'_>]) -> Mutability
 
 /// `force`, where it is there; else not.
 fn force_in(values: &[Valued<'_>]) -> bool
-    ensures { result ≡ force_in (row_of values.now) }
+    ensures { result ≡ force_in (valued_members values.now) }
 {
     truth_in(&value_at(Parameter::Force, values)).unwrap_or(false)
 }
 
 /// The names of `repositoryNames`, where it is there.
 fn names_in(alloc: Global, values: &[Valued<'_>]) -> Result<Option<Listed<Name>>, Mem>
-    ensures { IfOk result (λ names. names ≡ names_in (row_of values.now)) }
+    ensures { IfOk result (λ names. names ≡ names_in (valued_members values.now)) }
 {
     match texts_in(&value_at(Parameter::RepositoryNames, values)) {
         Some(items) => Ok(Some(names_of(alloc, items)?)),
@@ -196,7 +197,7 @@ fn name_of(alloc: Global, text: &str) -> Result<Name, Mem>
 
 /// The page from `nextToken` on of `maxResults` rows, where they are there; else the first page, of 100 rows.
 fn page_in(values: &[Valued<'_>]) -> Page
-    ensures { result ≡ page_in (row_of values.now) }
+    ensures { result ≡ page_in (valued_members values.now) }
 {
     Page {
         from: from_in(values),
@@ -206,7 +207,7 @@ fn page_in(values: &[Valued<'_>]) -> Page
 
 /// The place of `nextToken`, where it is there; else the first.
 fn from_in(values: &[Valued<'_>]) -> u64
-    ensures { result ≡ (page_in (row_of values.now)).from }
+    ensures { result ≡ (page_in (valued_members values.now)).from }
 {
     match text_at(Parameter::NextToken, values) {
         Some(text) => place_of(text).unwrap_or(0),
@@ -216,7 +217,7 @@ fn from_in(values: &[Valued<'_>]) -> u64
 
 /// `maxResults`, where it is there; else 100.
 fn max_in(values: &[Valued<'_>]) -> u32
-    ensures { result ≡ (page_in (row_of values.now)).max }
+    ensures { result ≡ (page_in (valued_members values.now)).max }
 {
     match whole_in(&value_at(Parameter::MaxResults, values)) {
         Some(number) => rows_of(number).unwrap_or(ROWS),

@@ -1,7 +1,7 @@
 // Which values a member may have (Amazon ECR API Reference).
 ghost use Rattle.std.specs.Prelude.{◌≡◌, ◌^◌, ◌&&◌, ◌||◌, true, nat_le, nat_lt, map, option_map, Some, None, if◌then◌else◌};
 ghost use Rattle.std.specs.List.{list_all};
-ghost use Rattle.ecr_model.specs.requests.Members.{allows, are_names, is_decimal, mutability_of, place_of, rows_of, site_of};
+ghost use Rattle.ecr_model.specs.requests.Members.{allows, are_names, is_decimal, mutability_of, token_place, rows_of, site_of_account};
 ghost use Rattle.ecr_model.specs.names.Names.{is_name};
 ghost use Rattle.ecr_model.specs.names.Sites.{is_digit};
 ghost use Rattle.ecr_api.specs.Values.{item_text, typed_of};
@@ -102,9 +102,9 @@ pub(crate) fn item_text<'a>(item: &'a Value) -> &'a str
 }
 
 /// The served site of the same region with that account.
-#[tactic(auto, unfolding(ecr_model::specs::requests::Members::site_of))]
+#[tactic(auto, unfolding(ecr_model::specs::requests::Members::site_of_account))]
 pub(crate) fn site_of<'a>(base: &SiteId, served: &'a [SiteId], account: &[u8]) -> Option<&'a SiteId>
-    ensures { option_map (λ s. s.now) result ≡ site_of base.now served.entry.now account.now }
+    ensures { option_map (λ s. s.now) result ≡ site_of_account base.now served.entry.now account.now }
 {
     served.iter().find(|site| {
         site.region.as_bytes() == base.region.as_bytes() && site.account.as_bytes() == account
@@ -113,7 +113,7 @@ pub(crate) fn site_of<'a>(base: &SiteId, served: &'a [SiteId], account: &[u8]) -
 
 /// The place that a decimal below 2^63 is.
 pub(crate) fn place_of(text: &str) -> Option<u64>
-    ensures { result ≡ place_of text.now }
+    ensures { result ≡ token_place text.now }
 {
     if !is_decimal(text.as_bytes()) {
         return None;

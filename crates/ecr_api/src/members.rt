@@ -3,7 +3,7 @@ ghost use Rattle.std.specs.Prelude.{◌≡◌, find, map, option_map};
 ghost use Rattle.std.specs.Option.{option_map_or};
 ghost use Rattle.ecr_model.specs.requests.Members.{first_bad, is_bad, is_there, named_value, stands_beside, text_in, texts_in, truth_in, value_at, whole_in};
 ghost use Rattle.ecr_api.specs.Readings.{AreApart, IsMember, IsMemberOrNone};
-ghost use Rattle.ecr_api.specs.Values.{item_text, row_of, typed_of, valued_of};
+ghost use Rattle.ecr_api.specs.Values.{item_text, valued_members, typed_of, valued_of};
 
 use crate::actions::parameter_text;
 use crate::domains::allows;
@@ -18,8 +18,8 @@ pub(crate) fn first_bad(
     served: &[SiteId],
     values: &[Valued<'_>],
 ) -> Option<Parameter>
-    requires { AreApart (row_of values.now) }
-    ensures { result ≡ first_bad base.now served.now (row_of values.now) }
+    requires { AreApart (valued_members values.now) }
+    ensures { result ≡ first_bad base.now served.now (valued_members values.now) }
 {
     first_bad_of(base, served, values, values)
 }
@@ -31,9 +31,9 @@ fn first_bad_of<'a>(
     all: &[Valued<'a>],
     values: &[Valued<'a>],
 ) -> Option<Parameter>
-    requires { AreApart (row_of values.now) }
+    requires { AreApart (valued_members values.now) }
     ensures { result ≡ option_map (λ v. v.member.parameter)
-        (find (is_bad base.now served.now (row_of all.now)) (row_of values.now)) }
+        (find (is_bad base.now served.now (valued_members all.now)) (valued_members values.now)) }
 {
     match values {
         [valued, rest @ ..] => if is_bad(base, served, all, valued) {
@@ -49,7 +49,7 @@ fn first_bad_of<'a>(
 /// apart.
 fn is_bad(base: &SiteId, served: &[SiteId], all: &[Valued<'_>], valued: &Valued<'_>) -> bool
     requires { IsMemberOrNone valued.now.member.apart }
-    ensures { result ≡ is_bad base.now served.now (row_of all.now) (valued_of valued.now) }
+    ensures { result ≡ is_bad base.now served.now (valued_members all.now) (valued_of valued.now) }
 {
     if is_there(&valued.value) {
         !allows(base, served, valued.member.domain, &valued.value)
@@ -62,7 +62,7 @@ fn is_bad(base: &SiteId, served: &[SiteId], all: &[Valued<'_>], valued: &Valued<
 /// Whether the parameter, where one is given, has a value.
 fn stands_beside(values: &[Valued<'_>], other: Option<Parameter>) -> bool
     requires { IsMemberOrNone other }
-    ensures { result ≡ stands_beside (row_of values.now) other }
+    ensures { result ≡ stands_beside (valued_members values.now) other }
 {
     match other {
         Some(parameter) => is_there(&value_at(parameter, values)),
@@ -73,14 +73,14 @@ fn stands_beside(values: &[Valued<'_>], other: Option<Parameter>) -> bool
 /// The value of a parameter.
 pub(crate) fn value_at<'a>(parameter: Parameter, values: &[Valued<'a>]) -> Typed<'a>
     requires { IsMember parameter }
-    ensures { typed_of result ≡ value_at parameter (row_of values.now) }
+    ensures { typed_of result ≡ value_at parameter (valued_members values.now) }
 {
     named_value(parameter_text(parameter), values)
 }
 
 /// The value of the member of that name; where none has it, it is absent.
 fn named_value<'a>(name: &str, values: &[Valued<'a>]) -> Typed<'a>
-    ensures { typed_of result ≡ named_value name.now (row_of values.now) }
+    ensures { typed_of result ≡ named_value name.now (valued_members values.now) }
 {
     match values {
         [valued, rest @ ..] => if valued.name == name {

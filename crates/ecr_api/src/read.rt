@@ -4,8 +4,8 @@ ghost use Rattle.serde_json.specs.View.{view};
 ghost use Rattle.ecr_json.specs.Thin.{IsThinOf};
 ghost use Rattle.ecr_model.specs.requests.Actions.{body_reading, reading, typed_reading, values_reading};
 ghost use Rattle.ecr_model.specs.documents.Documents.{document};
-ghost use Rattle.ecr_api.specs.Readings.{AreApart, LoadFits, Reads};
-ghost use Rattle.ecr_api.specs.Values.{row_of};
+ghost use Rattle.ecr_api.specs.Readings.{AreApart, LoadFits, HasReading};
+ghost use Rattle.ecr_api.specs.Values.{valued_members};
 
 use crate::actions::{action_of, member_names, members_of};
 use crate::calls::made_by;
@@ -31,7 +31,7 @@ pub fn read_call(
     base: &SiteId,
     served: &[SiteId],
 ) -> Result<Asked, ApiRefusal>
-    ensures exact { Reads result (reading target.now body.now base.now served.now) }
+    ensures exact { HasReading result (reading target.now body.now base.now served.now) }
 
     // So a desk can be asked for it.
     ensures fits { IfOk result LoadFits }
@@ -52,7 +52,7 @@ pub fn read_call_in(
     base: &SiteId,
     served: &[SiteId],
 ) -> Result<Asked, ApiRefusal>
-    ensures exact { Reads result (reading target.now body.now base.now served.now) }
+    ensures exact { HasReading result (reading target.now body.now base.now served.now) }
 
     // So a desk can be asked for it.
     ensures fits { IfOk result LoadFits }
@@ -74,7 +74,7 @@ fn read_body(
     action: Action,
     body: &Option<Value>,
 ) -> Result<Asked, ApiRefusal>
-    ensures exact { Reads result (body_reading base.now served.now action (option_map view body.now)) }
+    ensures exact { HasReading result (body_reading base.now served.now action (option_map view body.now)) }
     ensures fits { IfOk result LoadFits }
 {
     match body {
@@ -92,7 +92,7 @@ fn read_value(
     action: Action,
     body: &Value,
 ) -> Result<Asked, ApiRefusal>
-    ensures exact { Reads result (typed_reading base.now served.now action (view body.now)) }
+    ensures exact { HasReading result (typed_reading base.now served.now action (view body.now)) }
     ensures fits { IfOk result LoadFits }
 {
     match typed_members(alloc, members_of(action), body)? {
@@ -110,8 +110,8 @@ fn read_values(
     action: Action,
     values: &[Valued<'_>],
 ) -> Result<Asked, ApiRefusal>
-    requires { AreApart (row_of values.now) }
-    ensures exact { Reads result (values_reading base.now served.now action (row_of values.now)) }
+    requires { AreApart (valued_members values.now) }
+    ensures exact { HasReading result (values_reading base.now served.now action (valued_members values.now)) }
     ensures fits { IfOk result LoadFits }
 {
     match first_bad(base, served, values) {

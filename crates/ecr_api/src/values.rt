@@ -5,7 +5,7 @@ ghost use Rattle.serde_json.specs.View.{items_view, view};
 ghost use Rattle.ecr_model.specs.requests.Members as model;
 ghost use Rattle.ecr_model.specs.requests.Members.{all_texts, all_typed, are_texts, as_whole, typed, typed_member, typed_members};
 ghost use Rattle.ecr_api.specs.Readings.{AreMembers, IsMember};
-ghost use Rattle.ecr_api.specs.Values.{member_as, row_of, typed_of, valued_of};
+ghost use Rattle.ecr_api.specs.Values.{member_as, valued_members, typed_of, valued_of};
 
 use crate::actions::parameter_text;
 use ecr_json::{Field, list, text, truth, whole};
@@ -40,7 +40,8 @@ pub(crate) fn typed_members<'a>(
     body: &'a Value,
 ) -> Result<Option<Vec<Valued<'a>>>, Mem>
     requires { AreMembers members.now }
-    ensures { IfOk result (λ o. option_map (λ v. row_of v.items) o ≡ typed_members members.now (view body.entry.now)) }
+    ensures { IfOk result
+        (λ o. option_map (λ v. valued_members v.items) o ≡ typed_members members.now (view body.entry.now)) }
 {
     if !body.is_object() {
         return Ok(None);
@@ -60,9 +61,9 @@ fn read_members<'a>(
     values: &mut Vec<Valued<'a>>,
 ) -> Result<bool, Mem>
     requires { AreMembers members.now }
-    ensures { IfOk result (λ right. option_map (λ more. row_of values.old.items ++ more)
+    ensures { IfOk result (λ right. option_map (λ more. valued_members values.old.items ++ more)
         (all_typed members.now (view body.entry.now))
-        ≡ (if right then Some (row_of values.new.items) else None)) }
+        ≡ (if right then Some (valued_members values.new.items) else None)) }
 {
     match members {
         [member, rest @ ..] => match typed_member(body, member) {

@@ -8,7 +8,7 @@ use Rattle.ecr_model.specs.declared.registry.journal.Act.{Act}
 use Rattle.ecr_model.specs.declared.names.Name.{Name}
 use Rattle.ecr_model.specs.declared.requests.reply.SiteReply.{SiteReply}
 use Rattle.ecr_model.specs.registry.Directories as directories
-use Rattle.ecr_model.specs.registry.Directories.{first_directory, after_line, is_registered, line_of}
+use Rattle.ecr_model.specs.registry.Directories.{first_directory, directory_after_line, is_registered, registration_line}
 use Rattle.ecr_model.specs.registry.Journals.{past}
 use Rattle.ecr_model.specs.registry.Scripts.{Ask, knows, register, site_call, call, known, registered, listed, registers, acts, directory_turn, lines_after}
 use Rattle.ecr_model.specs.registry.Steps.{Beside}
@@ -21,14 +21,14 @@ use Rattle.ecr_cells.specs.Turns.{turn_in_directory, IsDirectoryTurn}
 
 -- past all tickets of a sound journal a turn is decided by the directory that the journal leads to
 turn_in_directory-now : (d : SiteJournal) (ticket : ℕ) (ask : Ask)
-    → directories.IsSound (frame_of_journal d) d.journal → past d.journal ≤ ticket
+    → directories.IsSoundDirectory (frame_of_journal d) d.journal → past d.journal ≤ ticket
     → turn_in_directory d ticket ask ≡ directory_turn (frame_of_journal d) (directory_of d) ask
 turn_in_directory-now d ticket ask sound later =
     ap (λ s. directory_turn (frame_of_journal d) s ask)
-    (the_last_is_now (after_line (frame_of_journal d)) first_directory d.journal ticket sound later)
+    (the_last_is_now (directory_after_line (frame_of_journal d)) first_directory d.journal ticket sound later)
 
 pub IsDirectoryTurn-knows : (d : SiteJournal) (ticket caller : ℕ) (name : Name) (is : Bool)
-    → directories.IsSound (frame_of_journal d) d.journal → past d.journal ≤ ticket
+    → directories.IsSoundDirectory (frame_of_journal d) d.journal → past d.journal ≤ ticket
     → is ≡ is_registered name (directory_of d)
     → IsDirectoryTurn d d ticket caller (knows name) (done.Known is)
 IsDirectoryTurn-knows d ticket caller name is sound later same = record {
@@ -38,7 +38,7 @@ IsDirectoryTurn-knows d ticket caller name is sound later same = record {
 }
 
 pub IsDirectoryTurn-register : (d after : SiteJournal) (ticket caller : ℕ) (name : Name) (r : Registered)
-    → directories.IsSound (frame_of_journal d) d.journal → past d.journal ≤ ticket
+    → directories.IsSoundDirectory (frame_of_journal d) d.journal → past d.journal ≤ ticket
     → r ≡ registration_in d name → after ≡ after_register d ticket caller name
     → IsDirectoryTurn d after ticket caller (register name) (done.Registered r)
 IsDirectoryTurn-register d after ticket caller name r sound later same left =
@@ -62,14 +62,14 @@ IsDirectoryTurn-register d after ticket caller name r sound later same left =
       entry name (Full limit count) = refl
 
       entered : (d : SiteJournal) (ticket caller : ℕ) (name : Name) (r : Registered)
-          → sites.entered r d (line_of ticket caller name)
+          → sites.after_result r d (registration_line ticket caller name)
           ≡ record d { journal = lines_after caller ticket d.journal (registers name r).entry }
       entered d ticket caller name New = refl
       entered d ticket caller name Known = refl
       entered d ticket caller name (Full limit count) = refl
 
 pub IsDirectoryTurn-site_call : (d : SiteJournal) (ticket caller : ℕ) (c : SiteCall) (reply : SiteReply)
-    → directories.IsSound (frame_of_journal d) d.journal → past d.journal ≤ ticket
+    → directories.IsSoundDirectory (frame_of_journal d) d.journal → past d.journal ≤ ticket
     → reply ≡ (outcome_in d c).reply → (outcome_in d c).act ≡ None
     → IsDirectoryTurn d d ticket caller (site_call c) (done.Listed reply)
 IsDirectoryTurn-site_call d ticket caller c reply sound later same asks =
@@ -78,11 +78,11 @@ IsDirectoryTurn-site_call d ticket caller c reply sound later same asks =
     record {
       told_is = ap listed same ∙ sym (ap (λ t. t.told) now);
       changes_is = sym (ap (λ t. is_some t.entry) now
-          ∙ ap (λ (a : Option Act). is_some (option_map directories.entry_of a)) asks);
+          ∙ ap (λ (a : Option Act). is_some (option_map directories.act_entry a)) asks);
       left = sym (ap (λ t. record d { journal = lines_after caller ticket d.journal t.entry }) now
           ∙ ap (λ (a : Option Act). record d {
             journal = lines_after caller ticket d.journal
-                (option_map directories.entry_of a);
+                (option_map directories.act_entry a);
           }) asks);
     }
 

@@ -10,9 +10,9 @@ use Rattle.ecr_model.specs.declared.registry.repository.Repository as kept
 use Rattle.ecr_model.specs.registry.Journals.{past}
 use Rattle.ecr_model.specs.requests.Requests.{beside_of}
 use Rattle.ecr_model.specs.registry.Scripts.{Ask, knows, register, site_call, call, Turned, replied, replies, lines_after}
-use Rattle.ecr_model.specs.registry.Steps.{Turn, first_state, step, after_line, IsSound, entry_of, line_of}
+use Rattle.ecr_model.specs.registry.Steps.{Turn, first_state, step, after_line, IsSoundRepository, entry_of, line_of}
 use Rattle.ecr_model.proofs.lemmas.registry.JournalLemmas.{the_last_is_now}
-use Rattle.ecr_repo.specs.States.{State, turn_at, outcome_of, reply_to, changes, after_call, with_entry}
+use Rattle.ecr_repo.specs.States.{State, unsealed_turn, call_outcome, reply_to, changes_repository, after_call, with_entry}
 use Rattle.ecr_cells.specs.declared.deed.Done.{Done}
 use Rattle.ecr_cells.specs.declared.deed.Done.TheVariants as done
 use Rattle.ecr_cells.specs.Deeds as deeds
@@ -26,24 +26,24 @@ is_some-option_map f (Some a) = refl
 
 pub IsRepositoryTurn-call : (s after : State) (ticket caller moment : ℕ) (given : Option (List ℕ)) (c : Call)
     (out : Outcome)
-    → IsSound s.key s.limits s.journal → past s.journal ≤ ticket
-    → out.reply ≡ reply_to s (turn_at ticket moment []) c
-    → out.changed ≡ changes s (turn_at ticket moment []) c
-    → after ≡ after_call s caller (turn_at ticket moment []) c
+    → IsSoundRepository s.key s.limits s.journal → past s.journal ≤ ticket
+    → out.reply ≡ reply_to s (unsealed_turn ticket moment []) c
+    → out.changed ≡ changes_repository s (unsealed_turn ticket moment []) c
+    → after ≡ after_call s caller (unsealed_turn ticket moment []) c
     → IsRepositoryTurn s after ticket caller (call (beside_of given moment) c) (done.Replied out)
 IsRepositoryTurn-call s after ticket caller moment given c out sound later reply_is changed_is after_is =
-    let turn : Turn = turn_at ticket moment [] in
-    let turned : Turned = replies turn c (outcome_of s turn c) in
+    let turn : Turn = unsealed_turn ticket moment [] in
+    let turned : Turned = replies turn c (call_outcome s turn c) in
     let now : turn_in_repository s ticket (call (beside_of given moment) c) ≡ turned =
     ap (λ r. replies turn c (step s.key s.limits r turn c))
     (the_last_is_now (after_line s.key s.limits) first_state s.journal ticket sound later) in
     record {
       told_is = ap (λ r. replied r None) reply_is ∙ sym (ap (λ t. t.told) now);
       changes_is = changed_is
-          ∙ sym (is_some-option_map (λ (r : kept.Repository). entry_of turn c) (outcome_of s turn c).after)
+          ∙ sym (is_some-option_map (λ (r : kept.Repository). entry_of turn c) (call_outcome s turn c).after)
           ∙ sym (ap (λ t. is_some t.entry) now);
       left = after_is
-          ∙ entered s ticket caller turn c refl (outcome_of s turn c).after
+          ∙ entered s ticket caller turn c refl (call_outcome s turn c).after
           ∙ sym (ap (λ t. record s { journal = lines_after caller ticket s.journal t.entry }) now);
     } where
       entered : (s : State) (ticket caller : ℕ) (turn : Turn) (c : Call) → turn.ticket ≡ ticket

@@ -23,7 +23,7 @@ use Rattle.ecr_repo.specs.States.{State}
 use Rattle.ecr_site.specs.States.{SiteJournal}
 use Rattle.ecr_cells.specs.declared.deed.Done.{Done}
 use Rattle.ecr_cells.specs.Deeds.{changes, told_of}
-use Rattle.ecr_cells.specs.SiteCells.{Site, state_of, lines_of_name, lines_of, IsOfName, AreOfSite, Puts, site_of, realm_of, turn_after, IsNextTurn, IsQuiet, IsTurn}
+use Rattle.ecr_cells.specs.SiteCells.{Site, state_of_name, lines_of_name, lines_of_cell, IsOfName, AreOfSite, Puts, site_of_cell, realm_of, turn_after, IsNextTurn, IsQuiet, IsTurn}
 use Rattle.ecr_cells.specs.Turns.{turn_in_directory, turn_in_repository, IsDirectoryTurn}
 
 -- ---- the numbers of the tickets
@@ -65,7 +65,7 @@ AreOfSite-put limits d repositories news name state held is puts = record {
   limited = held.limited;
   numbered = held.numbered;
   named = λ q. subst (λ (o : Option State). IfSome o (IsOfName d q)) (sym (puts q))
-      (cond_both (is_at (name_order name) q) (Some state) (state_of repositories q)
+      (cond_both (is_at (name_order name) q) (Some state) (state_of_name repositories q)
       (λ (o : Option State). IfSome o (IsOfName d q))
       (λ same. subst (λ (n : Name). IsOfName d n state) (name-same name q same) is)
       (λ apart. held.named q));
@@ -81,13 +81,13 @@ IsQuiet-put d repositories news name state is puts = record {
 } where
   quiet : (d : SiteJournal) (repositories news : List (Name × State)) (name : Name) (state : State)
       → lines_of_name repositories name ≡ state.journal → Puts repositories news name state
-      → (cell : CellKey) → lines_of (record { directory = d; repositories = news }) cell ≡ lines_of
+      → (cell : CellKey) → lines_of_cell (record { directory = d; repositories = news }) cell ≡ lines_of_cell
       (record { directory = d; repositories = repositories }) cell
   quiet d repositories news name state is puts (Directory site) = refl
   quiet d repositories news name state is puts (Repository key) =
       let of : Option State → List Line = λ o. option_map_or (λ (r : State). r.journal) o [] in
       ap of (puts key.name)
-      ∙ cond_both (is_at (name_order name) key.name) (Some state) (state_of repositories key.name)
+      ∙ cond_both (is_at (name_order name) key.name) (Some state) (state_of_name repositories key.name)
       (λ (o : Option State). of o ≡ lines_of_name repositories key.name)
       (λ same. sym is ∙ ap (lines_of_name repositories) (name-same name key.name same))
       (λ apart. refl)
@@ -101,7 +101,7 @@ pub AreOfSite-entered : (limits : Limits) (d : SiteJournal) (repositories : List
 AreOfSite-entered limits d repositories entry held = record {
   limited = held.limited;
   numbered = numbered-after d.journal entry held.numbered;
-  named = λ name. moved d (lines_after 0 (past d.journal) d.journal entry) name (state_of repositories name)
+  named = λ name. moved d (lines_after 0 (past d.journal) d.journal entry) name (state_of_name repositories name)
       (held.named name);
 } where
   moved : (d : SiteJournal) (journal : List Line) (name : Name) (o : Option State) → IfSome o (IsOfName d name)
@@ -151,8 +151,8 @@ IsTurn-directory before after id ticket ask d place is at turn placed others_are
     } where
       others : (before after : Site) (id : SiteId) → before.directory.site ≡ id
           → after.repositories ≡ before.repositories
-          → (other : CellKey) → same_cell (Directory id) other ≡ false → site_of other ≡ before.directory.site
-          → lines_of after other ≡ lines_of before other
+          → (other : CellKey) → same_cell (Directory id) other ≡ false → site_of_cell other ≡ before.directory.site
+          → lines_of_cell after other ≡ lines_of_cell before other
       others before after id at others_are (Directory q) apart there =
           let same : same_site id q ≡ true = ap (same_site id) (there ∙ at) ∙ same_site-self id in
           absurd (both_ways (same_site id q) apart same)
@@ -171,12 +171,12 @@ IsOfName-new d key limits state same at is = record {
   numbered = ap (λ s. past s.journal) is ∙ ap (λ s. length s.journal) (sym is);
 }
 
-pub lines_of_name-none : (repositories : List (Name × State)) (name : Name) → state_of repositories name ≡ None
+pub lines_of_name-none : (repositories : List (Name × State)) (name : Name) → state_of_name repositories name ≡ None
     → lines_of_name repositories name ≡ []
 lines_of_name-none repositories name absent = ap (λ o. option_map_or (λ (r : State). r.journal) o []) absent
 
 pub lines_of_name-some : (repositories : List (Name × State)) (name : Name) (state : State)
-    → state_of repositories name ≡ Some state → lines_of_name repositories name ≡ state.journal
+    → state_of_name repositories name ≡ Some state → lines_of_name repositories name ≡ state.journal
 lines_of_name-some repositories name state found = ap (λ o. option_map_or (λ (r : State). r.journal) o []) found
 
 pub IsTurn-repository : (d : SiteJournal) (repositories news : List (Name × State)) (key : RepoKey)
@@ -204,7 +204,7 @@ IsTurn-repository d repositories news key state after ask told place at lines_ar
           ∙ ap (λ ls. place_of (Repository key) (past ls) now) (sym lines_are)
           ∙ sym (ap (λ t. place_of (Repository key) (past lines) t) same);
       entered = ap of (puts key.name ∙ cond-true (is_at (name_order key.name) key.name) (Some after)
-          (state_of repositories key.name) (name-self key.name))
+          (state_of_name repositories key.name) (name-self key.name))
           ∙ ap (λ s. s.journal) turn.left
           ∙ ap (λ ls. lines_after 0 (past ls) ls now.entry) (sym lines_are)
           ∙ sym (ap (λ t. lines_after 0 (past lines) lines t.entry) same);
@@ -212,8 +212,8 @@ IsTurn-repository d repositories news key state after ask told place at lines_ar
     } where
       others : (d : SiteJournal) (repositories news : List (Name × State)) (key : RepoKey) (after : State)
           → d.site ≡ key.site → Puts repositories news key.name after
-          → (other : CellKey) → same_cell (Repository key) other ≡ false → site_of other ≡ d.site
-          → lines_of (record { directory = d; repositories = news }) other ≡ lines_of
+          → (other : CellKey) → same_cell (Repository key) other ≡ false → site_of_cell other ≡ d.site
+          → lines_of_cell (record { directory = d; repositories = news }) other ≡ lines_of_cell
           (record { directory = d; repositories = repositories }) other
       others d repositories news key after at puts (Directory q) apart there = refl
       others d repositories news key after at puts (Repository l) apart there =
@@ -221,7 +221,7 @@ IsTurn-repository d repositories news key state after ask told place at lines_ar
           let site : same_site key.site l.site ≡ true =
           ap (same_site key.site) (there ∙ at) ∙ same_site-self key.site in
           ap of (puts l.name)
-          ∙ cond_both (is_at (name_order key.name) l.name) (Some after) (state_of repositories l.name)
+          ∙ cond_both (is_at (name_order key.name) l.name) (Some after) (state_of_name repositories l.name)
           (λ (o : Option State). of o ≡ lines_of_name repositories l.name)
           (λ same. absurd (both_ways (same_key key l) apart
           (and_from (bytes_eq key.name.text l.name.text) (same_site key.site l.site)

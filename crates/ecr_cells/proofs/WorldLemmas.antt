@@ -15,14 +15,14 @@ use Rattle.ecr_model.specs.declared.registry.journal.Line.{Line}
 use Rattle.ecr_model.specs.declared.registry.journal.Place.{Place}
 use Rattle.ecr_model.specs.declared.names.SiteId.{SiteId}
 use Rattle.ecr_model.specs.registry.Journals.{past}
-use Rattle.ecr_model.specs.registry.Scripts.{Ask, Told, Realm, World, Turned, same_cell, same_key, with_lines, lines_after, place_of, parts_after, parts_left, is_uploading, fresh, entered, next_turn, count_of}
+use Rattle.ecr_model.specs.registry.Scripts.{Ask, Told, Realm, World, Turned, same_cell, same_key, with_lines, lines_after, place_of, parts_after, parts_left, is_uploading, fresh, entered, next_turn, entry_count}
 use Rattle.ecr_model.specs.names.Sites.{site_order}
 use Rattle.ecr_model.specs.registry.Soundness.{IsSoundIn, AreSound}
-use Rattle.ecr_model.specs.registry.Steps.{replay}
+use Rattle.ecr_model.specs.registry.Steps.{replayed_repository}
 use Rattle.ecr_model.proofs.lemmas.registry.CellLemmas.{is_eq-site_order, same_site-self, same_site-same}
 use Rattle.ecr_model.proofs.lemmas.registry.SoundnessLemmas.{same_cell-same, sound-empty, sound-entered}
-use Rattle.ecr_cells.specs.SiteCells.{Site, lines_of, site_of, realm_of, turn_after, IsSame}
-use Rattle.ecr_cells.specs.Desks.{site_at, lines_at, world_of, IsOfSite, AreKept, IsServed, empty_site, AreEmpty, Adds, Changes, Turns, Rests, Took, seen_of}
+use Rattle.ecr_cells.specs.SiteCells.{Site, lines_of_cell, site_of_cell, realm_of, turn_after, IsSame}
+use Rattle.ecr_cells.specs.Desks.{site_at, lines_at, world_of, IsOfSite, AreKept, HasCells, empty_site, AreEmpty, Adds, Changes, Turns, Rests, Took, still_state_of}
 
 -- ---- cells and sites
 
@@ -35,28 +35,28 @@ site-self a = is_eq-site_order a a ∙ same_site-self a
 -- ---- journals
 
 lines_at-before : (sites news : List (SiteId × Site)) (cell : CellKey) (before after : Site)
-    → Changes sites news (site_of cell) before after → lines_at sites cell ≡ lines_of before cell
+    → Changes sites news (site_of_cell cell) before after → lines_at sites cell ≡ lines_of_cell before cell
 lines_at-before sites news cell before after changes =
-    ap (λ o. option_map_or (λ (kept : Site). lines_of kept cell) o []) changes.was
+    ap (λ o. option_map_or (λ (kept : Site). lines_of_cell kept cell) o []) changes.was
 
 lines_at-after : (sites news : List (SiteId × Site)) (cell : CellKey) (before after : Site)
-    → Changes sites news (site_of cell) before after → lines_at news cell ≡ lines_of after cell
+    → Changes sites news (site_of_cell cell) before after → lines_at news cell ≡ lines_of_cell after cell
 lines_at-after sites news cell before after changes =
-    ap (λ o. option_map_or (λ (kept : Site). lines_of kept cell) o [])
-    (changes.updates (site_of cell) ∙ cond-true (is_at (site_order (site_of cell)) (site_of cell)) (Some after)
-    (site_at sites (site_of cell)) (site-self (site_of cell)))
+    ap (λ o. option_map_or (λ (kept : Site). lines_of_cell kept cell) o [])
+    (changes.updates (site_of_cell cell) ∙ cond-true (is_at (site_order (site_of_cell cell)) (site_of_cell cell)) (Some after)
+    (site_at sites (site_of_cell cell)) (site-self (site_of_cell cell)))
 
 -- a journal is as before where it is of another site, or its site has it as before
 lines_at-others : (sites news : List (SiteId × Site)) (site : SiteId) (before after : Site)
     → Changes sites news site before after
-    → (other : CellKey) → (site_of other ≡ site → lines_of after other ≡ lines_of before other)
+    → (other : CellKey) → (site_of_cell other ≡ site → lines_of_cell after other ≡ lines_of_cell before other)
     → lines_at news other ≡ lines_at sites other
 lines_at-others sites news site before after changes other same_lines =
-    let of : Option Site → List Line = λ o. option_map_or (λ (kept : Site). lines_of kept other) o [] in
-    ap of (changes.updates (site_of other))
-    ∙ cond_both (is_at (site_order site) (site_of other)) (Some after) (site_at sites (site_of other))
+    let of : Option Site → List Line = λ o. option_map_or (λ (kept : Site). lines_of_cell kept other) o [] in
+    ap of (changes.updates (site_of_cell other))
+    ∙ cond_both (is_at (site_order site) (site_of_cell other)) (Some after) (site_at sites (site_of_cell other))
     (λ (o : Option Site). of o ≡ lines_at sites other)
-    (λ same. let there : site ≡ site_of other = site-same site (site_of other) same in
+    (λ same. let there : site ≡ site_of_cell other = site-same site (site_of_cell other) same in
     same_lines (sym there) ∙ sym (ap of (ap (site_at sites) (sym there) ∙ changes.was)))
     (λ apart. refl)
 
@@ -72,11 +72,11 @@ world_of-rests sites news site rests =
     (λ cell. lines_at-others sites news site rests.before rests.after rests.changes cell
     (λ there. rests.quiet.lines cell))
 
-pub seen_of-rests : (served : List SiteId) (limits : Limits) (sites news : List (SiteId × Site)) (made : ℕ)
+pub still_state_of-rests : (served : List SiteId) (limits : Limits) (sites news : List (SiteId × Site)) (made : ℕ)
     (site : SiteId) → Rests sites news site
-    → seen_of (record { served = served; limits = limits; sites = news; made = made }) ≡ seen_of
+    → still_state_of (record { served = served; limits = limits; sites = news; made = made }) ≡ still_state_of
     (record { served = served; limits = limits; sites = sites; made = made })
-seen_of-rests served limits sites news made site rests =
+still_state_of-rests served limits sites news made site rests =
     ap (λ w. record { realm = record { served = served; limits = limits }; world = w; made = made })
     (world_of-rests sites news site rests)
 
@@ -92,9 +92,9 @@ no_parts : (limits : Limits) (cell : CellKey) (lines : List Line)
 unfolding parts_after
 no_parts limits (Directory site) lines = refl
 no_parts limits (Repository key) lines = fun_ext (λ k. fun_ext (λ number.
-    cond_both (same_key key k) (parts_left (replay key limits lines) (λ n. [])) (λ n. [])
+    cond_both (same_key key k) (parts_left (replayed_repository key limits lines) (λ n. [])) (λ n. [])
     (λ (parts : ℕ → List (List ℕ)). parts number ≡ [])
-    (λ yes. cond_both (is_uploading number (replay key limits lines)) [] [] (λ (ps : List (List ℕ)). ps ≡ [])
+    (λ yes. cond_both (is_uploading number (replayed_repository key limits lines)) [] [] (λ (ps : List (List ℕ)). ps ≡ [])
     (λ y. refl) (λ n. refl))
     (λ differs. refl)))
 
@@ -130,18 +130,18 @@ IsOfSite-at served limits sites site own kept found =
 next_turn-turns : (served : List SiteId) (limits : Limits) (sites news : List (SiteId × Site)) (cell : CellKey)
     (ask : Ask) (told : Told) (place : Place)
     → AreKept served limits sites → (turns : Turns sites news cell ask told place)
-    → turn_after (realm_of turns.before.directory) cell (lines_of turns.before cell) ask
+    → turn_after (realm_of turns.before.directory) cell (lines_of_cell turns.before cell) ask
     ≡ next_turn (record { served = served; limits = limits }) (world_of sites) cell ask
 next_turn-turns served limits sites news cell ask told place kept turns =
     let before = turns.before in
     let realm : Realm = record { served = served; limits = limits } in
-    let own : IsOfSite served limits (site_of cell) before =
-    IsOfSite-at served limits sites (site_of cell) before kept turns.changes.was in
-    let lines : lines_at sites cell ≡ lines_of before cell =
+    let own : IsOfSite served limits (site_of_cell cell) before =
+    IsOfSite-at served limits sites (site_of_cell cell) before kept turns.changes.was in
+    let lines : lines_at sites cell ≡ lines_of_cell before cell =
     lines_at-before sites news cell before turns.after turns.changes in
     ap (λ s. turn_after (record { served = s; limits = before.directory.limits }) cell
-    (lines_of before cell) ask) own.served_are
-    ∙ ap (λ l. turn_after (record { served = served; limits = l }) cell (lines_of before cell) ask) own.limits_are
+    (lines_of_cell before cell) ask) own.served_are
+    ∙ ap (λ l. turn_after (record { served = served; limits = l }) cell (lines_of_cell before cell) ask) own.limits_are
     ∙ ap (λ ls. turn_after realm cell ls ask) (sym lines)
 
 -- it leaves the world with its entry
@@ -153,20 +153,20 @@ world_of-turns : (served : List SiteId) (limits : Limits) (sites news : List (Si
 world_of-turns served limits sites news cell ask told place kept turns =
     let before = turns.before in
     let realm : Realm = record { served = served; limits = limits } in
-    let own : IsOfSite served limits (site_of cell) before =
-    IsOfSite-at served limits sites (site_of cell) before kept turns.changes.was in
-    let lines : lines_at sites cell ≡ lines_of before cell =
+    let own : IsOfSite served limits (site_of_cell cell) before =
+    IsOfSite-at served limits sites (site_of_cell cell) before kept turns.changes.was in
+    let lines : lines_at sites cell ≡ lines_of_cell before cell =
     lines_at-before sites news cell before turns.after turns.changes in
-    let same : turn_after (realm_of before.directory) cell (lines_of before cell) ask ≡ next_turn realm
+    let same : turn_after (realm_of before.directory) cell (lines_of_cell before cell) ask ≡ next_turn realm
     (world_of sites) cell ask =
     next_turn-turns served limits sites news cell ask told place kept turns in
     let turned : Turned = next_turn realm (world_of sites) cell ask in
     world_of-entered realm sites news cell turned.entry
     (lines_at-after sites news cell before turns.after turns.changes
     ∙ turns.turn.entered
-    ∙ ap (λ t. lines_after 0 (past (lines_of before cell)) (lines_of before cell) t.entry) same
+    ∙ ap (λ t. lines_after 0 (past (lines_of_cell before cell)) (lines_of_cell before cell) t.entry) same
     ∙ ap (λ ls. lines_after 0 (past ls) ls turned.entry) (sym lines))
-    (λ other apart. lines_at-others sites news (site_of cell) before turns.after turns.changes other
+    (λ other apart. lines_at-others sites news (site_of_cell cell) before turns.after turns.changes other
     (λ there. turns.turn.others other apart (there ∙ sym own.site_is)))
 
 -- the cells of each site are its own after a change of one
@@ -205,8 +205,8 @@ AreKept-turns served limits sites news cell ask told place kept turns =
     let realm : Realm = record { served = served; limits = limits } in
     record {
       each = each_after served limits sites news
-          (site_of cell) turns.before turns.after kept turns.changes turns.turn.same;
-      all = all_after served limits sites news (site_of cell) turns.before turns.after kept turns.changes;
+          (site_of_cell cell) turns.before turns.after kept turns.changes turns.turn.same;
+      all = all_after served limits sites news (site_of_cell cell) turns.before turns.after kept turns.changes;
       sound = subst (λ (w : World). AreSound realm w.journals)
           (sym (world_of-turns served limits sites news cell ask told place kept turns))
           (sound-entered realm (world_of sites) cell ask kept.sound);
@@ -222,13 +222,13 @@ AreKept-rests served limits sites news site kept rests = record {
 }
 
 -- a served site has cells
-pub IsServed-kept : (served : List SiteId) (limits : Limits) (sites : List (SiteId × Site)) (site : SiteId)
-    → AreKept served limits sites → Contains served site → IsServed sites site
-IsServed-kept served limits sites site kept there =
+pub HasCells-kept : (served : List SiteId) (limits : Limits) (sites : List (SiteId × Site)) (site : SiteId)
+    → AreKept served limits sites → Contains served site → HasCells sites site
+HasCells-kept served limits sites site kept there =
     found served limits sites site (site_at sites site) refl
     (All-contains (λ s. IsSome (site_at sites s)) served site kept.all there) (kept.each site) where
       found : (served : List SiteId) (limits : Limits) (sites : List (SiteId × Site)) (site : SiteId) (o : Option Site)
-          → site_at sites site ≡ o → IsSome o → IfSome o (IsOfSite served limits site) → IsServed sites site
+          → site_at sites site ≡ o → IsSome o → IfSome o (IsOfSite served limits site) → HasCells sites site
       found served limits sites site None is some each = cc
       found served limits sites site (Some kept) is some each =
           record { kept = kept; found = is; site_is = each.site_is }
@@ -263,18 +263,18 @@ IsSome-added served limits sites news site adds =
 lines_at-empty : (served : List SiteId) (limits : Limits) (sites : List (SiteId × Site))
     → AreEmpty served limits sites → (cell : CellKey) → lines_at sites cell ≡ []
 lines_at-empty served limits sites empty cell =
-    nothing served limits cell (site_at sites (site_of cell)) (empty (site_of cell)) where
+    nothing served limits cell (site_at sites (site_of_cell cell)) (empty (site_of_cell cell)) where
       of_empty : (served : List SiteId) (limits : Limits) (site : SiteId) (cell : CellKey)
-          → lines_of (empty_site served limits site) cell ≡ []
+          → lines_of_cell (empty_site served limits site) cell ≡ []
       of_empty served limits site (Directory s) = refl
       of_empty served limits site (Repository key) = refl
 
       nothing : (served : List SiteId) (limits : Limits) (cell : CellKey) (o : Option Site)
-          → IfSome o (λ kept. kept ≡ empty_site served limits (site_of cell))
-          → option_map_or (λ (kept : Site). lines_of kept cell) o [] ≡ []
+          → IfSome o (λ kept. kept ≡ empty_site served limits (site_of_cell cell))
+          → option_map_or (λ (kept : Site). lines_of_cell kept cell) o [] ≡ []
       nothing served limits cell None is = refl
       nothing served limits cell (Some kept) is =
-          ap (λ (w : Site). lines_of w cell) is ∙ of_empty served limits (site_of cell) cell
+          ap (λ (w : Site). lines_of_cell w cell) is ∙ of_empty served limits (site_of_cell cell) cell
 
 pub AreKept-empty : (served : List SiteId) (limits : Limits) (sites : List (SiteId × Site))
     → AreEmpty served limits sites → All (λ site. IsSome (site_at sites site)) served → AreKept served limits sites
@@ -297,9 +297,9 @@ world_of-empty served limits sites empty = world_of-fresh sites (lines_at-empty 
 
 -- ---- turns
 
-count_of-is : (entry : Option Entry) → count_of entry ≡ (if is_some entry then 1 else 0)
-count_of-is None = refl
-count_of-is (Some entry) = refl
+entry_count-is : (entry : Option Entry) → entry_count entry ≡ (if is_some entry then 1 else 0)
+entry_count-is None = refl
+entry_count-is (Some entry) = refl
 
 pub Took-turns : (served : List SiteId) (limits : Limits) (sites news : List (SiteId × Site)) (made counted : ℕ)
     (cell : CellKey) (ask : Ask) (told : Told) (place : Place)
@@ -312,15 +312,15 @@ pub Took-turns : (served : List SiteId) (limits : Limits) (sites news : List (Si
 Took-turns served limits sites news made counted cell ask told place kept turns counts =
     let before = turns.before in
     let realm : Realm = record { served = served; limits = limits } in
-    let lines : lines_at sites cell ≡ lines_of before cell =
+    let lines : lines_at sites cell ≡ lines_of_cell before cell =
     lines_at-before sites news cell before turns.after turns.changes in
-    let same : turn_after (realm_of before.directory) cell (lines_of before cell) ask ≡ next_turn realm
+    let same : turn_after (realm_of before.directory) cell (lines_of_cell before cell) ask ≡ next_turn realm
     (world_of sites) cell ask =
     next_turn-turns served limits sites news cell ask told place kept turns in
     let turned : Turned = next_turn realm (world_of sites) cell ask in
     let placed : place ≡ place_of cell (past (lines_at sites cell)) turned =
     turns.turn.placed
-    ∙ ap (λ t. place_of cell (past (lines_of before cell)) t) same
+    ∙ ap (λ t. place_of cell (past (lines_of_cell before cell)) t) same
     ∙ ap (λ ls. place_of cell (past ls) turned) (sym lines) in
     record {
       realm_stays = refl;
@@ -328,7 +328,7 @@ Took-turns served limits sites news made counted cell ask told place kept turns 
       placed = placed;
       left = world_of-turns served limits sites news cell ask told place kept turns;
       counted = counts ∙ ap (λ p. made + (if p.changed then 1 else 0)) placed
-          ∙ sym (ap (λ n. made + n) (count_of-is turned.entry));
+          ∙ sym (ap (λ n. made + n) (entry_count-is turned.entry));
     }
 
 -- ---- results

@@ -21,11 +21,11 @@ ask_of (OnSite c) = site_call c
 ask_of (OnRepository c load moment) = call (beside_of (given load) moment) c
 
 -- the content is such as the call has
-abbrev pub Fits : Deed → Type 0
-Fits (Knows name) = Unit {0}
-Fits (Register name) = Unit {0}
-Fits (OnSite c) = Unit {0}
-Fits (OnRepository c load moment) = FitsCall c load
+abbrev pub FitsDeed : Deed → Type 0
+FitsDeed (Knows name) = Unit {0}
+FitsDeed (Register name) = Unit {0}
+FitsDeed (OnSite c) = Unit {0}
+FitsDeed (OnRepository c load moment) = FitsCall c load
 
 -- the answer of a turn, in which no upload is completed yet
 abbrev pub told_of : Done → Told

@@ -8,11 +8,11 @@ use Rattle.ecr_model.specs.declared.registry.journal.Limits.{Limits}
 use Rattle.ecr_model.specs.declared.registry.journal.Line.{Line}
 use Rattle.ecr_model.specs.declared.registry.journal.Place.{Place}
 use Rattle.ecr_model.specs.declared.names.SiteId.{SiteId}
-use Rattle.ecr_model.specs.registry.Scripts.{Ask, Told, World, next_ticket, next_turn, entered, place_of, count_of}
+use Rattle.ecr_model.specs.registry.Scripts.{Ask, Told, World, next_ticket, next_turn, entered, place_of, entry_count}
 use Rattle.ecr_model.specs.names.Sites.{site_order}
 use Rattle.ecr_model.specs.registry.Soundness.{AreSound}
 use Rattle.ecr_desk.specs.Desks.{DeskState, StillState, seen_by}
-use Rattle.ecr_cells.specs.SiteCells.{Site, lines_of, site_of, IsQuiet, IsTurn}
+use Rattle.ecr_cells.specs.SiteCells.{Site, lines_of_cell, site_of_cell, IsQuiet, IsTurn}
 
 -- the cells of a site, where it is served
 abbrev pub site_at : List (SiteId × Site) → SiteId → Option Site
@@ -20,7 +20,7 @@ site_at sites site = lookup (is_at (site_order site)) sites
 
 -- the journal of a cell; that of a site that isn't served is empty
 abbrev pub lines_at : List (SiteId × Site) → CellKey → List Line
-lines_at sites cell = option_map_or (λ kept. lines_of kept cell) (site_at sites (site_of cell)) []
+lines_at sites cell = option_map_or (λ kept. lines_of_cell kept cell) (site_at sites (site_of_cell cell)) []
 
 -- the journals of all cells; no upload has a part yet
 abbrev pub world_of : List (SiteId × Site) → World
@@ -34,8 +34,8 @@ pub record Desk : Type 0 where
   pub made : ℕ
 
 -- the sites and limits, the journals, and the number of entries of a desk
-abbrev pub seen_of : Desk → StillState
-seen_of desk = record {
+abbrev pub still_state_of : Desk → StillState
+still_state_of desk = record {
   realm = record { served = desk.served; limits = desk.limits };
   world = world_of desk.sites;
   made = desk.made;
@@ -43,7 +43,7 @@ seen_of desk = record {
 
 -- the same as its caller sees it, which is alone
 abbrev pub state_of : Desk → DeskState
-state_of desk = seen_by (seen_of desk)
+state_of desk = seen_by (still_state_of desk)
 
 -- the cells are those of that site
 pub record IsOfSite (served : List SiteId) (limits : Limits) (site : SiteId) (kept : Site) : Type 0 where
@@ -58,7 +58,7 @@ pub record AreKept (served : List SiteId) (limits : Limits) (sites : List (SiteI
   pub sound : AreSound (record { served = served; limits = limits }) (lines_at sites)
 
 -- the site has cells, and they are its own
-pub record IsServed (sites : List (SiteId × Site)) (site : SiteId) : Type 0 where
+pub record HasCells (sites : List (SiteId × Site)) (site : SiteId) : Type 0 where
   pub kept : Site
   pub found : site_at sites site ≡ Some kept
   pub site_is : kept.directory.site ≡ site
@@ -92,7 +92,7 @@ pub record Turns (sites news : List (SiteId × Site)) (cell : CellKey) (ask : As
     (place : Place) : Type 0 where
   pub before : Site
   pub after : Site
-  pub changes : Changes sites news (site_of cell) before after
+  pub changes : Changes sites news (site_of_cell cell) before after
   pub turn : IsTurn before after cell ask told place
 
 -- no turn was made at that site, nor at another
@@ -108,9 +108,9 @@ pub record Took (before after : StillState) (cell : CellKey) (ask : Ask) (told :
   pub told_is : told ≡ (next_turn before.realm before.world cell ask).told
   pub placed : place ≡ place_of cell (next_ticket before.world cell) (next_turn before.realm before.world cell ask)
   pub left : after.world ≡ entered before.realm before.world cell (next_turn before.realm before.world cell ask).entry
-  pub counted : after.made ≡ before.made + count_of (next_turn before.realm before.world cell ask).entry
+  pub counted : after.made ≡ before.made + entry_count (next_turn before.realm before.world cell ask).entry
 
 -- the place of a turn, where it was made
-abbrev pub places_of : Option Place → List Place
-places_of None = []
-places_of (Some place) = place ∷ []
+abbrev pub places_made : Option Place → List Place
+places_made None = []
+places_made (Some place) = place ∷ []

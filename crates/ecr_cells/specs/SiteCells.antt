@@ -24,22 +24,22 @@ pub record Site : Type 0 where
   pub repositories : List (Name × State)
 
 -- the state of a name, where its repository had a turn
-abbrev pub state_of : List (Name × State) → Name → Option State
-state_of repositories name = lookup (is_at (name_order name)) repositories
+abbrev pub state_of_name : List (Name × State) → Name → Option State
+state_of_name repositories name = lookup (is_at (name_order name)) repositories
 
 -- the journal of a name's repository; that of one without a turn is empty
 abbrev pub lines_of_name : List (Name × State) → Name → List Line
-lines_of_name repositories name = option_map_or (λ state. state.journal) (state_of repositories name) []
+lines_of_name repositories name = option_map_or (λ state. state.journal) (state_of_name repositories name) []
 
 -- the journal of a cell of the site
-abbrev pub lines_of : Site → CellKey → List Line
-lines_of site (Directory id) = site.directory.journal
-lines_of site (Repository key) = lines_of_name site.repositories key.name
+abbrev pub lines_of_cell : Site → CellKey → List Line
+lines_of_cell site (Directory id) = site.directory.journal
+lines_of_cell site (Repository key) = lines_of_name site.repositories key.name
 
 -- the name has that state from now on, and the others have theirs as before
 abbrev pub Puts : List (Name × State) → List (Name × State) → Name → State → Type 0
 Puts repositories news name state = (other : Name)
-    → state_of news other ≡ cond (is_at (name_order name) other) (Some state) (state_of repositories other)
+    → state_of_name news other ≡ cond (is_at (name_order name) other) (Some state) (state_of_name repositories other)
 
 -- the state is that of this name of the site, and its tickets are 0, 1, 2, ..
 pub record IsOfName (directory : SiteJournal) (name : Name) (state : State) : Type 0 where
@@ -51,14 +51,14 @@ pub record IsOfName (directory : SiteJournal) (name : Name) (state : State) : Ty
 pub record AreOfSite (limits : Limits) (directory : SiteJournal) (repositories : List (Name × State)) : Type 0 where
   pub limited : limits ≡ directory.limits
   pub numbered : past directory.journal ≡ length directory.journal
-  pub named : (name : Name) → IfSome (state_of repositories name) (IsOfName directory name)
+  pub named : (name : Name) → IfSome (state_of_name repositories name) (IsOfName directory name)
 
 -- ---- turns
 
 -- the site of a cell
-abbrev pub site_of : CellKey → SiteId
-site_of (Directory site) = site
-site_of (Repository key) = key.site
+abbrev pub site_of_cell : CellKey → SiteId
+site_of_cell (Directory site) = site
+site_of_cell (Repository key) = key.site
 
 -- the sites and limits that the site's directory knows
 abbrev pub realm_of : SiteJournal → Realm
@@ -87,15 +87,15 @@ pub record IsSame (before after : SiteJournal) : Type 0 where
 -- no journal of the site changed
 pub record IsQuiet (before after : Site) : Type 0 where
   pub same : IsSame before.directory after.directory
-  pub lines : (cell : CellKey) → lines_of after cell ≡ lines_of before cell
+  pub lines : (cell : CellKey) → lines_of_cell after cell ≡ lines_of_cell before cell
 
 -- the next turn in a cell of the site, by caller 0: its answer, its place, and its entry in the journal of that cell alone
 pub record IsTurn (before after : Site) (cell : CellKey) (ask : Ask) (told : Told) (place : Place) : Type 0 where
   pub same : IsSame before.directory after.directory
-  pub told_is : told ≡ (turn_after (realm_of before.directory) cell (lines_of before cell) ask).told
-  pub placed : place ≡ place_of cell (past (lines_of before cell))
-      (turn_after (realm_of before.directory) cell (lines_of before cell) ask)
-  pub entered : lines_of after cell ≡ lines_after 0 (past (lines_of before cell)) (lines_of before cell)
-      (turn_after (realm_of before.directory) cell (lines_of before cell) ask).entry
-  pub others : (other : CellKey) → same_cell cell other ≡ false → site_of other ≡ before.directory.site
-      → lines_of after other ≡ lines_of before other
+  pub told_is : told ≡ (turn_after (realm_of before.directory) cell (lines_of_cell before cell) ask).told
+  pub placed : place ≡ place_of cell (past (lines_of_cell before cell))
+      (turn_after (realm_of before.directory) cell (lines_of_cell before cell) ask)
+  pub entered : lines_of_cell after cell ≡ lines_after 0 (past (lines_of_cell before cell)) (lines_of_cell before cell)
+      (turn_after (realm_of before.directory) cell (lines_of_cell before cell) ask).entry
+  pub others : (other : CellKey) → same_cell cell other ≡ false → site_of_cell other ≡ before.directory.site
+      → lines_of_cell after other ≡ lines_of_cell before other

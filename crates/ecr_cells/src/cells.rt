@@ -1,9 +1,9 @@
 // The cells of all sites.
 ghost use Rattle.std.specs.Prelude.{◌≡◌, IfOk, OnOk, OnErr};
 ghost use Rattle.ecr_model.specs.registry.Scripts.{fresh};
-ghost use Rattle.ecr_cells.specs.Deeds.{ask_of, told_of, Fits, HasContents};
-ghost use Rattle.ecr_cells.specs.Desks.{Adds, AreKept, IsServed, Rests, Turns, world_of};
-ghost use Rattle.ecr_cells.specs.SiteCells.{site_of};
+ghost use Rattle.ecr_cells.specs.Deeds.{ask_of, told_of, FitsDeed, HasContents};
+ghost use Rattle.ecr_cells.specs.Desks.{Adds, AreKept, HasCells, Rests, Turns, world_of};
+ghost use Rattle.ecr_cells.specs.SiteCells.{site_of_cell};
 
 use crate::deed::{Deed, Done};
 use crate::site_cells::SiteCells;
@@ -56,12 +56,12 @@ pub(crate) fn make(
     cell: CellKey,
     deed: Deed,
 ) -> Result<(Done, Place), Mem>
-    requires served { IsServed cells.old.entries (site_of cell) }
-    requires fits { Fits deed }
+    requires served { HasCells cells.old.entries (site_of_cell cell) }
+    requires fits { FitsDeed deed }
     ensures turned { IfOk result
         (λ t. Turns cells.old.entries cells.new.entries cell (ask_of deed) (told_of t.0) t.1) }
     ensures contents { IfOk result (λ t. HasContents t.0) }
-    ensures err { OnErr result (Rests cells.old.entries cells.new.entries (site_of cell)) }
+    ensures err { OnErr result (Rests cells.old.entries cells.new.entries (site_of_cell cell)) }
 {
     match cells.get_mut(site_of(&cell)) {
         Some(site) => site.make(alloc, cell, deed),
@@ -71,7 +71,7 @@ pub(crate) fn make(
 
 // The site of a cell.
 fn site_of(cell: &CellKey) -> &SiteId
-    ensures { result.now ≡ site_of cell.now }
+    ensures { result.now ≡ site_of_cell cell.now }
 {
     match cell {
         CellKey::Directory(site) => site,

@@ -1,7 +1,7 @@
 // What a turn is to do in its cell, and what came of it.
 ghost use Rattle.std.specs.Prelude.{◌≡◌};
 ghost use Rattle.ecr_model.specs.requests.Requests.{first_ask};
-ghost use Rattle.ecr_cells.specs.Deeds.{ask_of, beyond, changes, is_new, refusal_of, unless_known, Fits};
+ghost use Rattle.ecr_cells.specs.Deeds.{ask_of, beyond, changes, is_new, refusal_of, unless_known, FitsDeed};
 
 use ecr_blob_upload::{Load, Outcome};
 use ecr_model::{Call, Moment, Name, Refusal, Registered, SiteCall, SiteReply};
@@ -41,7 +41,7 @@ pub(crate) enum Done {
 /// The question of a call's first turn, to the directory of its site: CreateRepository registers its name.
 pub(crate) fn first_deed(name: Name, call: &Call) -> Deed
     ensures asks { ask_of result ≡ first_ask name call.now }
-    ensures fits { Fits result }
+    ensures fits { FitsDeed result }
 {
     match call {
         Call::Create { .. } => Deed::Register(name),

@@ -8,9 +8,9 @@ ghost use Rattle.ecr_model.specs.requests.Requests as scripts;
 ghost use Rattle.ecr_model.specs.requests.Requests.{plain, reply_told, site_told};
 ghost use Rattle.ecr_model.specs.registry.Scripts.{fresh, ends, turn};
 ghost use Rattle.ecr_desk.specs.Desks.{Ran};
-ghost use Rattle.ecr_cells.specs.Deeds.{ask_of, told_of, Fits, HasContents};
-ghost use Rattle.ecr_cells.specs.Desks.{seen_of, state_of, places_of};
-ghost use Rattle.ecr_cells.specs.SiteCells.{site_of};
+ghost use Rattle.ecr_cells.specs.Deeds.{ask_of, told_of, FitsDeed, HasContents};
+ghost use Rattle.ecr_cells.specs.Desks.{still_state_of, state_of, places_made};
+ghost use Rattle.ecr_cells.specs.SiteCells.{site_of_cell};
 
 use crate::cells;
 use crate::cells::{Cells, cells_of, copy_of};
@@ -48,7 +48,7 @@ impl SoloDesk {
     /// A registry that serves these sites, with no name. A site that stands twice among them is one.
     pub fn new(alloc: Global, sites: Vec<SiteId>, limits: Limits) -> Result<SoloDesk, Mem>
         ensures fresh { IfOk result
-            (λ d. seen_of d ≡ record {
+            (λ d. still_state_of d ≡ record {
               realm = record { served = sites.items; limits = limits };
               world = fresh;
               made = 0;
@@ -66,13 +66,13 @@ impl SoloDesk {
 
     // Makes the next turn in a cell of a served site, and counts its entry. Without memory all is as before.
     fn make(&mut self, alloc: Global, cell: CellKey, deed: Deed) -> Result<(Done, Place), Mem>
-        requires served { Contains self.old.served (site_of cell) }
-        requires fits { Fits deed }
+        requires served { Contains self.old.served (site_of_cell cell) }
+        requires fits { FitsDeed deed }
         ensures ran { IfOk result
             (λ t. Ran (state_of self.old) (state_of self.new) (turn cell (ask_of deed) (λ told. ends told))
             (told_of t.0) (t.1 ∷ [])) }
         ensures contents { IfOk result (λ t. HasContents t.0) }
-        ensures err { OnErr result (seen_of self.new ≡ seen_of self.old) }
+        ensures err { OnErr result (still_state_of self.new ≡ still_state_of self.old) }
     {
         // The count of entries fits.
         if self.made == u64::MAX {
@@ -94,7 +94,7 @@ impl SoloDesk {
         ensures ran { IfOk result
             (λ t. Ran (state_of self.old) (state_of self.new) (scripts.first_turn key.now call.now) (told_of t.0)
             (t.1 ∷ [])) }
-        ensures err { OnErr result (seen_of self.new ≡ seen_of self.old) }
+        ensures err { OnErr result (still_state_of self.new ≡ still_state_of self.old) }
     {
         let site = copy_of(&key.site)?;
         let deed = first_deed(copy_of_name(&key.name)?, call);
@@ -116,9 +116,9 @@ impl SoloDesk {
         requires fits { FitsCall call load }
         ensures ran { IfOk result
             (λ t. Ran (state_of self.old) (state_of self.new)
-            (scripts.then_cell key.now call (given load) moment (told_of told)) (plain t.0.reply) (places_of t.1)) }
+            (scripts.then_cell key.now call (given load) moment (told_of told)) (plain t.0.reply) (places_made t.1)) }
         ensures contents { IfOk result (λ t. AreContents t.0.reply t.0.blobs.items) }
-        ensures err { OnErr result (seen_of self.new ≡ seen_of self.old) }
+        ensures err { OnErr result (still_state_of self.new ≡ still_state_of self.old) }
     {
         match refusal_of(&told) {
             None => self.cell_turn(alloc, key, call, load, moment),
@@ -139,9 +139,9 @@ impl SoloDesk {
         requires fits { FitsCall call load }
         ensures ran { IfOk result
             (λ t. Ran (state_of self.old) (state_of self.new) (scripts.cell_turn key.now call (given load) moment)
-            (plain t.0.reply) (places_of t.1)) }
+            (plain t.0.reply) (places_made t.1)) }
         ensures contents { IfOk result (λ t. AreContents t.0.reply t.0.blobs.items) }
-        ensures err { OnErr result (seen_of self.new ≡ seen_of self.old) }
+        ensures err { OnErr result (still_state_of self.new ≡ still_state_of self.old) }
     {
         let copy = copy_of_key(key)?;
         let deed = Deed::OnRepository { call, load, moment };
@@ -262,7 +262,7 @@ fn answer_of(
     requires { (vec_len places ≡ 0) × (2 ≤ vec_capacity places) }
     ensures reply { result.reply ≡ outcome.reply }
     ensures blobs { result.blobs.items ≡ outcome.blobs.items }
-    ensures places { result.places.items ≡ first ∷ places_of second }
+    ensures places { result.places.items ≡ first ∷ places_made second }
     ensures sealed { result.sealed ≡ None }
 {
     places.push_reserved(first);

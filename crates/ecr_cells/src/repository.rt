@@ -1,7 +1,7 @@
 // A turn in a repository.
 ghost use Rattle.std.specs.Prelude.{◌≡◌, ◌≤◌, [], IfOk, OnOk, OnErr, length};
 ghost use Rattle.ecr_model.specs.registry.Journals.{past};
-ghost use Rattle.ecr_cells.specs.Deeds.{ask_of, Fits, HasContents};
+ghost use Rattle.ecr_cells.specs.Deeds.{ask_of, FitsDeed, HasContents};
 ghost use Rattle.ecr_cells.specs.SiteCells.{Puts};
 ghost use Rattle.ecr_cells.specs.Turns.{IsRepositoryTurn};
 
@@ -55,7 +55,7 @@ impl RepositoryCell {
         deed: Deed,
     ) -> Result<Done, Mem>
         requires later { past self.old.journal ≤ ticket }
-        requires fits { Fits deed }
+        requires fits { FitsDeed deed }
         ensures turned { IfOk result (λ done. IsRepositoryTurn self.old self.new ticket caller (ask_of deed) done) }
         ensures contents { IfOk result (λ done. HasContents done) }
         ensures err { OnErr result (self.new ≡ self.old) }
@@ -75,7 +75,7 @@ pub(crate) fn make(
     deed: Deed,
 ) -> Result<Done, Mem>
     requires later { past state.old.journal ≤ ticket }
-    requires fits { Fits deed }
+    requires fits { FitsDeed deed }
     ensures turned { IfOk result (λ done. IsRepositoryTurn state.old state.new ticket caller (ask_of deed) done) }
     ensures contents { IfOk result (λ done. HasContents done) }
     ensures err { OnErr result (state.new ≡ state.old) }

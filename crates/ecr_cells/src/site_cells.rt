@@ -1,9 +1,9 @@
 // The cells of a site.
 ghost use Rattle.std.specs.Prelude.{◌≡◌, [], None, IfOk, OnErr, length};
 ghost use Rattle.ecr_model.specs.declared.registry.journal.CellKey.TheVariants.{Directory, Repository};
-ghost use Rattle.ecr_cells.specs.Deeds.{ask_of, changes, told_of, Fits, HasContents};
+ghost use Rattle.ecr_cells.specs.Deeds.{ask_of, changes, told_of, FitsDeed, HasContents};
 ghost use Rattle.ecr_model.specs.registry.Journals.{past};
-ghost use Rattle.ecr_cells.specs.SiteCells.{site_of, state_of, IsNextTurn, IsQuiet, IsTurn};
+ghost use Rattle.ecr_cells.specs.SiteCells.{site_of_cell, state_of_name, IsNextTurn, IsQuiet, IsTurn};
 
 use crate::deed::{Deed, Done, changes};
 use crate::directory;
@@ -60,8 +60,8 @@ impl SiteCells {
         cell: CellKey,
         deed: Deed,
     ) -> Result<(Done, Place), Mem>
-        requires at { self.old.directory.site ≡ site_of cell }
-        requires fits { Fits deed }
+        requires at { self.old.directory.site ≡ site_of_cell cell }
+        requires fits { FitsDeed deed }
         ensures turned { IfOk result (λ t. IsTurn self.old self.new cell (ask_of deed) (told_of t.0) t.1) }
         ensures contents { IfOk result (λ t. HasContents t.0) }
         ensures err { OnErr result (IsQuiet self.old self.new) }
@@ -98,7 +98,7 @@ impl SiteCells {
         deed: Deed,
     ) -> Result<(Done, Place), Mem>
         requires at { self.old.directory.site ≡ key.site }
-        requires fits { Fits deed }
+        requires fits { FitsDeed deed }
         ensures turned { IfOk result (λ t. IsTurn self.old self.new (Repository key) (ask_of deed) (told_of t.0) t.1) }
         ensures contents { IfOk result (λ t. HasContents t.0) }
         ensures err { OnErr result (IsQuiet self.old self.new) }
@@ -112,8 +112,8 @@ impl SiteCells {
     // Makes the first turn in a repository, which is kept from then on where there is memory for it and the turn.
     fn in_new(&mut self, alloc: Global, key: RepoKey, deed: Deed) -> Result<(Done, Place), Mem>
         requires at { self.old.directory.site ≡ key.site }
-        requires fits { Fits deed }
-        requires absent { state_of self.old.repositories key.name ≡ None }
+        requires fits { FitsDeed deed }
+        requires absent { state_of_name self.old.repositories key.name ≡ None }
         ensures turned { IfOk result (λ t. IsTurn self.old self.new (Repository key) (ask_of deed) (told_of t.0) t.1) }
         ensures contents { IfOk result (λ t. HasContents t.0) }
         ensures err { OnErr result (self.new ≡ self.old) }
@@ -134,7 +134,7 @@ fn next_in(
     deed: Deed,
 ) -> Result<(Done, Place), Mem>
     requires key { cell.old.key ≡ key }
-    requires fits { Fits deed }
+    requires fits { FitsDeed deed }
     requires numbered { past cell.old.journal ≡ length cell.old.journal }
     ensures turned { IfOk result (λ t. IsNextTurn cell.old cell.new (ask_of deed) (told_of t.0) t.1) }
     ensures contents { IfOk result (λ t. HasContents t.0) }

@@ -1,5 +1,5 @@
 ghost use Rattle.std.specs.Prelude.{Contains, IfOk, IfSome};
-ghost use Rattle.ecr_cells.specs.Desks.{seen_of};
+ghost use Rattle.ecr_cells.specs.Desks.{still_state_of};
 
 use crate::SoloDesk;
 use crate::cells::copy_of;
@@ -32,7 +32,7 @@ fn site(alloc: Global, region: &[u8]) -> Result<SiteId, Mem> {
 
 // A copy of the desk's site at that place.
 fn site_at(desk: &SoloDesk, at: usize) -> Result<Option<SiteId>, Mem>
-    ensures { IfOk result (λ o. IfSome o (λ site. Contains (seen_of desk.now).realm.served site)) }
+    ensures { IfOk result (λ o. IfSome o (λ site. Contains (still_state_of desk.now).realm.served site)) }
 {
     let served = desk.served();
     if at < served.len() {

@@ -10,7 +10,7 @@ use Rattle.ecr_model.specs.laws.ScriptLaws.{RunsThen}
 use Rattle.ecr_model.specs.registry.Scripts.{Ask, Told, Script, ends, turn, then_do, Realm, World, Journals, Parts, count_changed, run, run_to}
 use Rattle.ecr_model.specs.registry.Soundness.{AreSound}
 use Rattle.ecr_model.specs.laws.ViewLaws.{IsFirst, IsRun}
-use Rattle.ecr_model.specs.registry.Views.{Views, Terms, Made, journals_of, places_of, alone_in, views_of, unsealed, Visits, Halts}
+use Rattle.ecr_model.specs.registry.Views.{Views, Terms, PlacedTurn, journals_of, places_of, alone_in, views_of, unsealed, Visits, Halts}
 use Rattle.ecr_model.proofs.lemmas.registry.ScriptLemmas.{run-then_do, run_to-all, run_to-first, run_to-none, run_to-then, count_changed-append, count_changed-run}
 use Rattle.ecr_model.proofs.lemmas.registry.StillViewLemmas.{runs_visit, visits_run, halts_run_to}
 use Rattle.ecr_model.proofs.lemmas.registry.ViewLemmas.{visits_then, halts_here, halts_first, halts_then, visits_halt, places_of-append, places_of-unsealed}
@@ -91,7 +91,7 @@ Runs-ran before after script answer places sound runs =
     }
 
 -- the first turns of a still desk are the first of a run
-halts-still : {A : Type 0} (before : DeskState) (now : Views) (script : Script A) (turns : List Made) → IsStill before
+halts-still : {A : Type 0} (before : DeskState) (now : Views) (script : Script A) (turns : List PlacedTurn) → IsStill before
     → Halts (terms_of before) before.views now script turns
     → IsFirst A before.realm (still_of before).world script now turns
 halts-still before now script turns still halted =
@@ -292,7 +292,7 @@ Stopped-whole before after script a places ran = record {
 
 -- a single turn was made
 one_turn : {A : Type 0} (terms : Terms) (was now : Views) (cell : CellKey) (ask : Ask) (answer : Told → A)
-    (made : List Made) (a : A)
+    (made : List PlacedTurn) (a : A)
     → Visits terms was now (turn cell ask (λ t. ends (answer t))) made a → length made ≡ 1
 unfolding Visits
 one_turn terms was now cell ask answer [] a v = absurd v

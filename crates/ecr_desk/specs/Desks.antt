@@ -2,7 +2,7 @@
 use Rattle.std.specs.Prelude.{◌≡◌, ◌≤◌, ◌+◌, ℕ, Bool, true, List, ◌++◌, length}
 use Rattle.ecr_model.specs.declared.registry.journal.Place.{Place}
 use Rattle.ecr_model.specs.registry.Scripts.{Realm, Parts, World, Script, Run, count_changed, run, run_to}
-use Rattle.ecr_model.specs.registry.Views.{Views, Terms, Made, journals_of, places_of, views_of, Visits, Halts}
+use Rattle.ecr_model.specs.registry.Views.{Views, Terms, PlacedTurn, journals_of, places_of, views_of, Visits, Halts}
 
 -- a desk as its caller sees it: the sites and limits, whether the caller is alone, its views of the cells, the parts of
 -- uploads in progress, which only a caller that is alone sees, and how many entries the caller has added
@@ -59,7 +59,7 @@ pub record Ran {A : Type 0} (before after : DeskState) (script : Script A) (answ
     (places : List Place) : Type 0 where
   pub realm_stays : after.realm ≡ before.realm
   pub alone_stays : after.alone ≡ before.alone
-  pub turns : List Made
+  pub turns : List PlacedTurn
   pub visited : Visits (terms_of before) before.views after.views script turns answer
   pub placed : places ≡ places_of turns
   pub counted : after.made ≡ before.made + count_changed places
@@ -69,7 +69,7 @@ pub record Ran {A : Type 0} (before after : DeskState) (script : Script A) (answ
 pub record Stopped {A : Type 0} (before after : DeskState) (script : Script A) : Type 0 where
   pub realm_stays : after.realm ≡ before.realm
   pub alone_stays : after.alone ≡ before.alone
-  pub turns : List Made
+  pub turns : List PlacedTurn
   pub halted : Halts (terms_of before) before.views after.views script turns
   pub counted : after.made ≡ before.made + count_changed (places_of turns)
   pub parts_are : IsStill before

@@ -5,7 +5,7 @@ use Rattle.ecr_model.specs.declared.http.Head.{Head}
 use Rattle.ecr_model.specs.declared.http.Request.{Request}
 use Rattle.ecr_model.specs.http.Framing.{max_head, IsEnd, Parses, waits}
 use Rattle.ecr_model.specs.http.Replies.{interim}
-use Rattle.ecr_model.specs.http.Stream.{blank_length, Front, IsFront, Point, grown, past_blank, Meets, AwaitsBody, past, closes, Tail, Lacks, tail_of}
+use Rattle.ecr_model.specs.http.Stream.{blank_length, Front, IsFront, Point, grown, past_blank, Meets, AwaitsBody, past_request, closes, Tail, Lacks, tail_of}
 use Rattle.ecr_model.proofs.lemmas.http.StreamLemmas.{blank_length-le, blank_length-drop}
 use Rattle.ecr_http.specs.Events.{point_of}
 use Rattle.ecr_http.specs.Leads.{IsRead}
@@ -92,7 +92,7 @@ point_at k l q = record { at = k; ahead = l; closed = closes q }
 -- the reader stands behind the request that it gives
 pub past-used : (p : Point) (at : ℕ) (bytes : List ℕ) (r : Request) (count : ℕ) (now : Intake) → Settled p at bytes
     → now.at ≡ at + count
-    → now.buffer ≡ drop count bytes → point_of now (closes r) ≡ past p r count
+    → now.buffer ≡ drop count bytes → point_of now (closes r) ≡ past_request p r count
 past-used p at bytes r count now s used left =
     ap₂ (λ (k : ℕ) (l : List ℕ). point_at k l r) (used ∙ ap (λ (k : ℕ). k + count) (sym s.at_is))
     (left ∙ ap (drop count) (sym s.ahead_is))

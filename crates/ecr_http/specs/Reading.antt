@@ -4,7 +4,7 @@ use Rattle.std.specs.Prelude.{◌≡◌, ℕ, ◌+◌, ◌<◌, ◌≤◌, ◌�
 use Rattle.std.specs.Io.KnownBytes.{Consumes, Appends, IsAtEnd}
 use Rattle.ecr_model.specs.http.Replies.{continue_reply, interim}
 use Rattle.ecr_model.specs.sessions.Sessions.{max_read, is_waiting}
-use Rattle.ecr_model.specs.http.Stream.{Point, grown, Meets, AwaitsBody, past, whole, Lacks, Ending, ended, truncated, bad_at, long_at, more}
+use Rattle.ecr_model.specs.http.Stream.{Point, grown, Meets, AwaitsBody, past_request, whole, Lacks, Ending, ended, truncated, bad_at, long_at, more}
 use Rattle.ecr_http.specs.Sends.{Sends}
 use Rattle.ecr_http.specs.declared.events.Event.{Event}
 use Rattle.ecr_http.specs.declared.events.Event.TheVariants as events
@@ -22,7 +22,7 @@ MayTell p further = (further ≡ []) ⊎ (AwaitsBody p × (further ≡ continue_
 -- the event that is given where these bytes come, with the reader at that point afterwards
 abbrev pub GivesEvent : Point → Point → Option (List ℕ) → Option (List ℕ) → Option (List ℕ) → Event → Type 0
 GivesEvent p q left held now (events.Request request) =
-    (n : ℕ) × Meets p (whole request n) × (q ≡ past p request n) × Appends held now (interim (is_waiting request))
+    (n : ℕ) × Meets p (whole request n) × (q ≡ past_request p request n) × Appends held now (interim (is_waiting request))
 GivesEvent p q left held now events.End = EndsAs true p held now ended × IsAtEnd left
 GivesEvent p q left held now (events.Truncated at) = EndsAs true p held now (truncated at) × IsAtEnd left
 GivesEvent p q left held now (events.Bad at) = EndsAs false p held now (bad_at at)

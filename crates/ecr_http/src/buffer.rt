@@ -1,7 +1,7 @@
 // The bytes that were read and not yet used.
 ghost use Rattle.std.specs.Prelude.{◌≡◌, ◌+◌, ◌≤◌, ◌<◌, ◌++◌, [], List, ℕ, length, take, drop, OnOk, OnErr, IfOk};
 ghost use Rattle.std.specs.Io.KnownBytes.{Keeps};
-ghost use Rattle.ecr_outside.specs.Source.{Gives, HasCause};
+ghost use Rattle.ecr_outside.specs.Source.{Gives, CountsReadFault};
 ghost use Rattle.ecr_http.specs.Intakes.{Fills, FitsRoom};
 
 use ecr_model::Mem;
@@ -88,7 +88,7 @@ impl Buffer {
         ensures mem { OnErr result (Keeps (S.left source.old) (S.left source.new)) }
         ensures kept { OnErr result (self.new ≡ self.old) }
         ensures later { S.faults source.old ≤ S.faults source.new }
-        ensures cause { IfOk result (HasCause (S.faults source.old) (S.faults source.new)) }
+        ensures cause { IfOk result (CountsReadFault (S.faults source.old) (S.faults source.new)) }
     {
         self.close_gap();
         make_room(&mut self.room, self.end, most)?;
@@ -133,7 +133,7 @@ fn read_at<S: Source>(source: &mut S, room: &mut Vec<u8>, end: usize, most: usiz
     ensures kept { take end room.new.items ≡ take end room.old.items }
     ensures bytes { Gives (S.left source.old) (S.left source.new) (drop end room.new.items) result }
     ensures later { S.faults source.old ≤ S.faults source.new }
-    ensures cause { HasCause (S.faults source.old) (S.faults source.new) result }
+    ensures cause { CountsReadFault (S.faults source.old) (S.faults source.new) result }
 {
     read_some(source, &mut room[end..], most)
 }
@@ -146,7 +146,7 @@ fn read_some<S: Source>(source: &mut S, piece: &mut [u8], most: usize) -> Got
     ensures length { length piece.new ≡ length piece.old }
     ensures bytes { Gives (S.left source.old) (S.left source.new) piece.new result }
     ensures later { S.faults source.old ≤ S.faults source.new }
-    ensures cause { HasCause (S.faults source.old) (S.faults source.new) result }
+    ensures cause { CountsReadFault (S.faults source.old) (S.faults source.new) result }
 {
     source.read(&mut piece[..most])
 }

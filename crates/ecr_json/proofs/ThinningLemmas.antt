@@ -17,7 +17,7 @@ use Rattle.serde_json.specs.View.{view, items_view}
 use Rattle.serde_json.specs.declared.value.Value.{Value}
 use Rattle.ecr_json.specs.Passing.{behind, passed_items, passed_members}
 use Rattle.ecr_json.specs.Thin.{are_texts, first_items, max_texts, thin}
-use Rattle.ecr_json.specs.Thinning.{thin_value, thin_list, emptied, texts_before, AreFirst, ReadsTexts}
+use Rattle.ecr_json.specs.Thinning.{thin_value, thin_list, emptied_list, texts_before, AreFirst, ReadsTexts}
 use Rattle.ecr_json.proofs.ReadingLemmas.{converted-array, converted-object, items-more, items-refused, items-over}
 use Rattle.ecr_json.proofs.PassingLemmas.{passed-shorter}
 
@@ -82,14 +82,14 @@ paired r None = refl
 paired r (Some v) = refl
 
 -- `{}` with what is behind it, where the value was right
-pub emptied-if : (right : Truth) (o : Option (List Token)) (r : List Token) (x : Option Value)
+pub emptied_list-if : (right : Truth) (o : Option (List Token)) (r : List Token) (x : Option Value)
     → MatchBool right (o ≡ Some r) (o ≡ None)
     → option_map view x ≡ (if right then Some (object no_members) else None)
     → option_map {U = Data × List Token} (λ rest. (object no_members, rest)) o ≡ option_map (λ v. (view v, r)) x
-emptied-if true o r x e seen =
+emptied_list-if true o r x e seen =
     ap (option_map {U = Data × List Token} (λ rest. (object no_members, rest))) e
     ∙ sym (paired r x ∙ ap (option_map {U = Data × List Token} (λ d. (d, r))) seen)
-emptied-if false o r x e seen =
+emptied_list-if false o r x e seen =
     ap (option_map {U = Data × List Token} (λ rest. (object no_members, rest))) e
     ∙ sym (paired r x ∙ ap (option_map {U = Data × List Token} (λ d. (d, r))) seen)
 
@@ -395,6 +395,6 @@ module _ (depth : ℕ) (first left : List Token) (vs : List Value) where
 
   -- an item that is no text empties the list
   pub ReadsTexts-others : ReadsTexts depth first left vs → (t : Token) (s : List Token) → left ≡ t ∷ s
-      → text_of t ≡ None → after_end_array left ≡ None → thin_list depth first ≡ emptied depth (t ∷ s)
+      → text_of t ≡ None → after_end_array left ≡ None → thin_list depth first ≡ emptied_list depth (t ∷ s)
   ReadsTexts-others h t s is other going =
-      emptied_by h t s is other going (converted of_json (value depth left)) refl ∙ ap (emptied depth) is
+      emptied_by h t s is other going (converted of_json (value depth left)) refl ∙ ap (emptied_list depth) is

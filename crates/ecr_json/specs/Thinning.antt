@@ -19,8 +19,8 @@ abbrev pub thin_list : ℕ → List Token → Option (Data × List Token)
 thin_list depth ts = parse_map (λ ds. thin (array ds)) (converted of_items (items (value depth) (length ts) ts))
 
 -- `{}` and the tokens behind a list, by an item of it and those after it
-abbrev pub emptied : ℕ → List Token → Option (Data × List Token)
-emptied depth ts = option_map (λ rest. (object no_members, rest))
+abbrev pub emptied_list : ℕ → List Token → Option (Data × List Token)
+emptied_list depth ts = option_map (λ rest. (object no_members, rest))
     (option_and_then (passed_items depth) (passed depth ts))
 
 -- the members of an object, and the tokens behind its brace

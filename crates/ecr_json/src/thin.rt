@@ -9,7 +9,7 @@ ghost use Rattle.serde_json.specs.Data.{no_members, null, number, object};
 ghost use Rattle.serde_json.specs.Read.{converted, number_of, of_json, read};
 ghost use Rattle.serde_json.specs.View.{members_view, view};
 ghost use Rattle.ecr_json.specs.Thin.{is_named, IsThin, IsThinOf};
-ghost use Rattle.ecr_json.specs.Thinning.{emptied, only_last, read_members, thin_list, thin_value, AreFirst, HasThin, Keeps, KeepsOf};
+ghost use Rattle.ecr_json.specs.Thinning.{emptied_list, only_last, read_members, thin_list, thin_value, AreFirst, HasThin, Keeps, KeepsOf};
 
 use crate::Mem;
 use crate::number::number_of;
@@ -234,7 +234,7 @@ fn pass_list(
     token: Token<'_>,
     depth: usize,
 ) -> Option<Value>
-    ensures { emptied depth (token_of token.entry ∷ reader.old) ≡ option_map (λ v. (view v, reader.new)) result }
+    ensures { emptied_list depth (token_of token.entry ∷ reader.old) ≡ option_map (λ v. (view v, reader.new)) result }
 {
     let is_right = pass(reader, token, depth) && skip_items(reader, depth);
     empty_if(alloc, is_right)

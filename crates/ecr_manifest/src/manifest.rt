@@ -2,7 +2,7 @@
 ghost use Rattle.std.specs.Prelude.{◌≡◌, ◌+◌, ◌≤◌, ◌^◌, IfOk, IfSome, length, map, option_and_then, option_map};
 ghost use Rattle.serde_json.specs.Find.{as_array, get};
 ghost use Rattle.serde_json.specs.View.{items_view, view};
-ghost use Rattle.ecr_model.specs.documents.Manifests.{config_of, descriptor_of, descriptors, differs, entries_name, entries_of, is_image, is_list, is_mistyped, is_two, judged, manifest_fault, media_from, media_of, reading, stored};
+ghost use Rattle.ecr_model.specs.documents.Manifests.{config_of, descriptor_of, descriptors, differs, entries_name, entries_of, is_image, is_list, is_mistyped, is_two, judged, manifest_fault, media_from, media_of, manifest_reading, stored};
 ghost use Rattle.ecr_manifest.specs.Counts.{size};
 
 use crate::blobs::judged;
@@ -20,14 +20,14 @@ const OCI_MANIFEST: &[u8] = b"application/vnd.oci.image.manifest.v1+json";
 const OCI_INDEX: &[u8] = b"application/vnd.oci.image.index.v1+json";
 
 /// The facts of the manifest, or what is wrong.
-#[tactic(auto, unfolding(ecr_model::specs::documents::Manifests::reading))]
+#[tactic(auto, unfolding(ecr_model::specs::documents::Manifests::manifest_reading))]
 pub(crate) fn reading(
     alloc: Global,
     given: Option<&[u8]>,
     value: &Value,
 ) -> Result<Result<Facts, ManifestFault>, Mem>
     requires { size (view value.now) ≤ 2 ^ 32 }
-    ensures { IfOk result (λ r. r ≡ reading (option_map (λ v. v.now) given.entry) (view value.now)) }
+    ensures { IfOk result (λ r. r ≡ manifest_reading (option_map (λ v. v.now) given.entry) (view value.now)) }
 {
     match manifest_fault(given, value) {
         Some(fault) => Ok(Err(fault)),

@@ -7,9 +7,9 @@ use Rattle.ecr_outside.specs.declared.sink.Took.{Took}
 use Rattle.ecr_outside.specs.declared.sink.Took.TheVariants.{Bytes, Failed}
 
 -- a write takes at least one byte, and no more than the piece has
-abbrev pub HasCount : Took → List ℕ → Type 0
-HasCount (Bytes n) piece = (1 ≤ n) × (n ≤ length piece)
-HasCount Failed piece = ⊤
+abbrev pub IsWriteSize : Took → List ℕ → Type 0
+IsWriteSize (Bytes n) piece = (1 ≤ n) × (n ≤ length piece)
+IsWriteSize Failed piece = ⊤
 
 -- the bytes taken are the piece's first, and stand at the end; a failure adds none
 abbrev pub Takes : Option (List ℕ) → Option (List ℕ) → List ℕ → Took → Type 0
@@ -17,9 +17,9 @@ Takes old new piece (Bytes n) = Appends old new (take n piece)
 Takes old new piece Failed = Keeps old new
 
 -- a write that failed has its fault counted
-abbrev pub HasCause : ℕ → ℕ → Took → Type 0
-HasCause old new (Bytes n) = ⊤
-HasCause old new Failed = old < new
+abbrev pub CountsWriteFault : ℕ → ℕ → Took → Type 0
+CountsWriteFault old new (Bytes n) = ⊤
+CountsWriteFault old new Failed = old < new
 
 -- a sink in memory: the bytes that it holds, how often it failed, the sizes of its writes, the
 -- numbers of those that fail, and the number of the next write

@@ -7,10 +7,10 @@ use Rattle.ecr_outside.specs.declared.source.Got.{Got}
 use Rattle.ecr_outside.specs.declared.source.Got.TheVariants.{Bytes, End, Failed}
 
 -- a read gives at least one byte, and no more than the buffer has room for
-abbrev pub HasCount : Got → List ℕ → Type 0
-HasCount (Bytes n) buf = (1 ≤ n) × (n ≤ length buf)
-HasCount End buf = ⊤
-HasCount Failed buf = ⊤
+abbrev pub IsReadSize : Got → List ℕ → Type 0
+IsReadSize (Bytes n) buf = (1 ≤ n) × (n ≤ length buf)
+IsReadSize End buf = ⊤
+IsReadSize Failed buf = ⊤
 
 -- the bytes given are the first that were left; at the end none is left; a failure takes none
 abbrev pub Gives : Option (List ℕ) → Option (List ℕ) → List ℕ → Got → Type 0
@@ -19,10 +19,10 @@ Gives old new buf End = Keeps old new × IsAtEnd new
 Gives old new buf Failed = Keeps old new
 
 -- a read that failed has its fault counted
-abbrev pub HasCause : ℕ → ℕ → Got → Type 0
-HasCause old new (Bytes n) = ⊤
-HasCause old new End = ⊤
-HasCause old new Failed = old < new
+abbrev pub CountsReadFault : ℕ → ℕ → Got → Type 0
+CountsReadFault old new (Bytes n) = ⊤
+CountsReadFault old new End = ⊤
+CountsReadFault old new Failed = old < new
 
 -- a source in memory: the bytes that are left, how often it failed, the sizes of its reads, the
 -- numbers of those that fail, and the number of the next read

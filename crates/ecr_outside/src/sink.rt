@@ -1,6 +1,6 @@
 // Where bytes go.
 ghost use Rattle.std.specs.Prelude.{◌≡◌, ◌<◌, ◌≤◌, ℕ, List, Option, [], length, is_some, Some, IsTrue};
-ghost use Rattle.ecr_outside.specs.Sink.{HasCount, Takes, HasCause, IsPlanned};
+ghost use Rattle.ecr_outside.specs.Sink.{IsWriteSize, Takes, CountsWriteFault, IsPlanned};
 ghost use Rattle.ecr_outside.specs.Plan.{is_failing, next_call};
 
 use crate::faults::Faults;
@@ -30,13 +30,13 @@ pub trait Sink {
     /// Takes maybe fewer than `piece` has; the rest is the caller's to write again.
     fn write(&mut self, piece: &[u8]) -> Took
         requires { 0 < length piece.now }
-        ensures count { HasCount result piece.now }
+        ensures count { IsWriteSize result piece.now }
         ensures bytes { Takes (held self.old) (held self.new) piece.now result }
 
         // A sink that tells its bytes goes on to tell them, and no other begins to.
         ensures tells { is_some (held self.new) ≡ is_some (held self.old) }
         ensures later { faults self.old ≤ faults self.new }
-        ensures cause { HasCause (faults self.old) (faults self.new) result };
+        ensures cause { CountsWriteFault (faults self.old) (faults self.new) result };
 }
 
 /// A sink in memory. Contracts see the bytes that it holds, which it tells, its faults, and what its
@@ -98,11 +98,11 @@ impl Sink for MemSink {
 
     fn write(&mut self, piece: &[u8]) -> Took
         requires { 0 < length piece.now }
-        ensures count { HasCount result piece.now }
+        ensures count { IsWriteSize result piece.now }
         ensures bytes { Takes (Some self.old.held) (Some self.new.held) piece.now result }
         ensures tells { is_some (Some self.new.held) ≡ is_some (Some self.old.held) }
         ensures later { self.old.faults ≤ self.new.faults }
-        ensures cause { HasCause self.old.faults self.new.faults result }
+        ensures cause { CountsWriteFault self.old.faults self.new.faults result }
 
         // What it does is known before, by its number, but for want of memory.
         ensures planned { IsPlanned self.old piece.now result }

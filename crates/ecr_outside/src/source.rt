@@ -1,6 +1,6 @@
 // Where bytes come from.
 ghost use Rattle.std.specs.Prelude.{◌≡◌, ◌<◌, ◌≤◌, ℕ, List, Option, length, take, drop, min, is_some, Some};
-ghost use Rattle.ecr_outside.specs.Source.{HasCount, Gives, HasCause, next_got};
+ghost use Rattle.ecr_outside.specs.Source.{IsReadSize, Gives, CountsReadFault, next_got};
 ghost use Rattle.ecr_outside.specs.Plan.{next_call};
 
 use crate::faults::Faults;
@@ -32,13 +32,13 @@ pub trait Source {
     /// `buf` behind them, and all of it after `End` and `Failed`, says nothing.
     fn read(&mut self, buf: &mut [u8]) -> Got
         requires { 0 < length buf.old }
-        ensures count { HasCount result buf.new }
+        ensures count { IsReadSize result buf.new }
         ensures bytes { Gives (left self.old) (left self.new) buf.new result }
 
         // A source that tells its bytes goes on to tell them, and no other begins to.
         ensures tells { is_some (left self.new) ≡ is_some (left self.old) }
         ensures later { faults self.old ≤ faults self.new }
-        ensures cause { HasCause (faults self.old) (faults self.new) result };
+        ensures cause { CountsReadFault (faults self.old) (faults self.new) result };
 }
 
 /// A source in memory. Contracts see the bytes that are left, which it tells, its faults, and what its
@@ -96,11 +96,11 @@ impl Source for MemSource {
 
     fn read(&mut self, buf: &mut [u8]) -> Got
         requires { 0 < length buf.old }
-        ensures count { HasCount result buf.new }
+        ensures count { IsReadSize result buf.new }
         ensures bytes { Gives (Some self.old.left) (Some self.new.left) buf.new result }
         ensures tells { is_some (Some self.new.left) ≡ is_some (Some self.old.left) }
         ensures later { self.old.faults ≤ self.new.faults }
-        ensures cause { HasCause self.old.faults self.new.faults result }
+        ensures cause { CountsReadFault self.old.faults self.new.faults result }
 
         // What it does is known before, by its number.
         ensures planned { result ≡ next_got self.old (length buf.old) }

@@ -3,7 +3,7 @@ ghost use Rattle.std.specs.Prelude.{◌≡◌, ◌≤◌, [], ℕ, Ok, Err, IfOk
 ghost use Rattle.serde_json.specs.View.{view, items_view};
 ghost use Rattle.serde_json.specs.Read.{read};
 ghost use Rattle.ecr_model.specs.documents.Documents.{document};
-ghost use Rattle.ecr_model.specs.documents.Policies.{answer, by_number, clashes_from, has_length, list_fault, policy, policy_of, rules_in};
+ghost use Rattle.ecr_model.specs.documents.Policies.{policy_or_fault, by_number, clashes_from, has_length, list_fault, policy, policy_of, rules_in};
 ghost use Rattle.ecr_policy.specs.declared.refusal.PolicyRefusal.TheVariants.{Bad};
 
 use crate::PolicyRefusal;
@@ -99,7 +99,7 @@ fn read_rules(
     text: &str,
     list: Option<Vec<Value>>,
 ) -> Result<Result<Policy, PolicyFault>, Mem>
-    ensures { IfOk result (λ r. r ≡ answer (list_fault (option_map (λ v. items_view v.items) list))
+    ensures { IfOk result (λ r. r ≡ policy_or_fault (list_fault (option_map (λ v. items_view v.items) list))
         (policy_of text.now (option_map (λ v. items_view v.items) list))) }
 {
     match list {
@@ -111,7 +111,7 @@ fn read_rules(
 /// The policy of the items, or the first fault from cause 3 on.
 #[tactic(auto, using(crate::proofs::JsonLemmas::items, crate::proofs::ReadingLemmas::answers), unfolding(ecr_model::specs::documents::Policies::list_fault))]
 fn listed(alloc: Global, text: &str, items: Vec<Value>) -> Result<Result<Policy, PolicyFault>, Mem>
-    ensures { IfOk result (λ r. r ≡ answer (list_fault (Some (items_view items.items)))
+    ensures { IfOk result (λ r. r ≡ policy_or_fault (list_fault (Some (items_view items.items)))
         (policy_of text.now (Some (items_view items.items)))) }
 {
     if items.is_empty() || items.len() > 50 {
@@ -131,7 +131,7 @@ fn together(
     rules: Listed<Rule>,
 ) -> Result<Result<Policy, PolicyFault>, Mem>
     requires { length rules ≤ 50 }
-    ensures { IfOk result (λ r. r ≡ answer (clashes_from 1 rules [] rules)
+    ensures { IfOk result (λ r. r ≡ policy_or_fault (clashes_from 1 rules [] rules)
         (record { text = text.now; rules = by_number rules })) }
 {
     if let Some(fault) = first_clash(alloc, rules.as_slice())? {

@@ -3,7 +3,7 @@ ghost use Rattle.std.specs.Prelude.{◌≡◌, ◌&&◌, false, IfOk, nat_le, op
 ghost use Rattle.serde_json.specs.Data.{no_items};
 ghost use Rattle.serde_json.specs.View.{view, items_view};
 ghost use Rattle.std.specs.Option.{option_map_or};
-ghost use Rattle.ecr_model.specs.documents.Policies.{are_prefixes, choose_of, count_number, count_of, counts_days, counts_images, has_its_prefixes, has_its_unit, has_only, is_prefix, is_prefix_list, prefix_list, selection_fault, selection_members, selects_any, selects_tagged, selects_untagged, texts_of};
+ghost use Rattle.ecr_model.specs.documents.Policies.{are_prefixes, choose_of, count_number, stated_count, counts_days, counts_images, has_its_prefixes, has_its_unit, has_only, is_prefix, is_prefix_list, prefix_list, selection_fault, selection_members, selects_any, selects_tagged, selects_untagged, texts_of};
 
 use crate::json::{characters, has, has_only, is_text_at, list_at, take_list, whole_at};
 use ecr_model::{Choose, Count, Listed, Mem, Text};
@@ -53,7 +53,7 @@ pub(crate) fn choose_of(alloc: Global, selection: &mut Value) -> Result<Choose, 
 
 /// How the selection counts, where it has no fault.
 pub(crate) fn count_of(selection: &Value) -> Count
-    ensures { result ≡ count_of (view selection.now) }
+    ensures { result ≡ stated_count (view selection.now) }
 {
     let number = count_number(selection).unwrap_or(0);
     if counts_days(selection) {

@@ -8,7 +8,7 @@ use Rattle.ecr_model.specs.declared.names.RepoKey.{RepoKey}
 use Rattle.ecr_model.specs.declared.registry.repository.Repository.{Repository}
 use Rattle.ecr_model.specs.registry.Journals.{past_from, past}
 use Rattle.ecr_model.specs.registry.Journals as journals
-use Rattle.ecr_model.specs.registry.Steps.{Turn, first_state, step, after_line, replay, line_of}
+use Rattle.ecr_model.specs.registry.Steps.{Turn, first_state, step, after_line, replayed_repository, line_of}
 use Rattle.ecr_model.proofs.lemmas.registry.JournalLemmas.{IsSoundFrom-push, replay-push}
 use Rattle.ecr_repo.specs.Cells.{IsKept}
 use Rattle.ecr_repo.specs.StateLaws.{AnAnswerChangesNothing, TheNextTurnIsLater}
@@ -25,12 +25,12 @@ pub IsKept-entered : (key : RepoKey) (limits : Limits) (journal : List Line) (re
     → after_line key limits repository line ≡ Some next
     → IsKept key limits (journal ++ line ∷ []) next
 IsKept-entered key limits journal repository line next kept later changes =
-    let there : after_line key limits (replay key limits journal) line ≡ Some next =
+    let there : after_line key limits (replayed_repository key limits journal) line ≡ Some next =
     subst (λ r. after_line key limits r line ≡ Some next) kept.leads changes in
     record {
       sound = IsSoundFrom-push (after_line key limits) 0 first_state journal line next kept.sound later there;
       leads = sym (replay-push (after_line key limits) first_state journal line
-          ∙ ap (λ o. unwrap_or o (replay key limits journal)) there);
+          ∙ ap (λ o. unwrap_or o (replayed_repository key limits journal)) there);
     }
 
 -- so does entering a line only where it changes the repository

@@ -10,10 +10,10 @@ use Rattle.ecr_model.specs.declared.requests.reply.Described.{Described}
 use Rattle.ecr_model.specs.declared.registry.repository.Presence.{Presence}
 use Rattle.ecr_model.specs.declared.registry.repository.Repository.{Repository}
 use Rattle.ecr_model.specs.registry.Contents.{AreContents}
-use Rattle.ecr_model.specs.registry.Steps.{Turn, first_state, step, replay, IsSound}
+use Rattle.ecr_model.specs.registry.Steps.{Turn, first_state, step, replayed_repository, IsSoundRepository}
 use Rattle.ecr_model.specs.registry.Steps as steps
 use Rattle.ecr_blob_upload.specs.declared.call.Outcome.{Outcome}
-use Rattle.ecr_repo.specs.States.{turn_at}
+use Rattle.ecr_repo.specs.States.{unsealed_turn}
 
 -- the repository that is present like this, or is absent, and was given nothing yet
 abbrev pub repository_of : Option Presence → Repository
@@ -34,15 +34,15 @@ pub record IsDone (o : steps.Outcome) (before after : Repository) (out : Outcome
 -- the outcome is the call's at that moment, whatever else the turn and the limits are
 abbrev pub IsMade : RepoKey → ℕ → Call → Repository → Repository → Outcome → Type 0
 IsMade key moment call before after out = (limits : Limits) (ticket : ℕ) (destinations : List SiteId)
-    → IsDone (step key limits before (turn_at ticket moment destinations) call) before after out
+    → IsDone (step key limits before (unsealed_turn ticket moment destinations) call) before after out
 
 -- the outcome is the call's, whatever the turn and the limits are, and nothing changes
-pub record IsAnswered (key : RepoKey) (call : Call) (repository : Repository) (out : Outcome) : Type 0 where
+pub record AnswersUnchanged (key : RepoKey) (call : Call) (repository : Repository) (out : Outcome) : Type 0 where
   pub reply : (limits : Limits) (turn : Turn) → out.reply ≡ (step key limits repository turn call).reply
   pub changed : out.changed ≡ false
   pub contents : AreContents out.reply out.blobs.items
 
 -- the journal is sound, and leads to the repository
 pub record IsKept (key : RepoKey) (limits : Limits) (journal : List Line) (repository : Repository) : Type 0 where
-  pub sound : IsSound key limits journal
-  pub leads : repository ≡ replay key limits journal
+  pub sound : IsSoundRepository key limits journal
+  pub leads : repository ≡ replayed_repository key limits journal

@@ -3,12 +3,12 @@ use Rattle.std.specs.Prelude.{◌≡◌, ◌≤◌, ℕ, suc, false}
 use Rattle.ecr_model.specs.declared.requests.call.Call.{Call}
 use Rattle.ecr_model.specs.registry.Journals.{past}
 use Rattle.ecr_model.specs.registry.Steps.{Turn}
-use Rattle.ecr_repo.specs.States.{State, AnswersOnly, changes, after_call}
+use Rattle.ecr_repo.specs.States.{State, AnswersOnly, changes_repository, after_call}
 
 -- a call that asks changes nothing
 abbrev pub AnAnswerChangesNothing : Type 0
 AnAnswerChangesNothing = (state : State) (turn : Turn) (call : Call) → AnswersOnly call
-    → changes state turn call ≡ false
+    → changes_repository state turn call ≡ false
 
 -- the next ticket is above all in the journal after a turn, where the turn's own was before it
 abbrev pub TheNextTurnIsLater : Type 0

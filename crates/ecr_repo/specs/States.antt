@@ -9,7 +9,7 @@ use Rattle.ecr_model.specs.declared.names.RepoKey.{RepoKey}
 use Rattle.ecr_model.specs.declared.names.SiteId.{SiteId}
 use Rattle.ecr_model.specs.declared.requests.reply.Reply.{Reply}
 use Rattle.ecr_model.specs.declared.registry.repository.Repository.{Repository}
-use Rattle.ecr_model.specs.registry.Steps.{Outcome, Turn, turn_of, step, replay, line_of}
+use Rattle.ecr_model.specs.registry.Steps.{Outcome, Turn, turn_of, step, replayed_repository, line_of}
 use Rattle.ecr_blob_upload.specs.declared.call.Load.{Load}
 use Rattle.ecr_blob_upload.specs.Loads.{FitsCall}
 
@@ -21,24 +21,24 @@ pub record State : Type 0 where
 
 -- the repository that the journal leads to
 abbrev pub repository_now : State → Repository
-repository_now state = replay state.key state.limits state.journal
+repository_now state = replayed_repository state.key state.limits state.journal
 
 -- a turn in which no upload is completed, for a call without content
-abbrev pub turn_at : ℕ → ℕ → List SiteId → Turn
-turn_at ticket moment destinations =
+abbrev pub unsealed_turn : ℕ → ℕ → List SiteId → Turn
+unsealed_turn ticket moment destinations =
     turn_of ticket None (record { moment = moment; destinations = destinations; given = None })
 
 -- the outcome of a call in a turn
-abbrev pub outcome_of : State → Turn → Call → Outcome
-outcome_of state turn call = step state.key state.limits (repository_now state) turn call
+abbrev pub call_outcome : State → Turn → Call → Outcome
+call_outcome state turn call = step state.key state.limits (repository_now state) turn call
 
 -- the reply to the call in a turn
 abbrev pub reply_to : State → Turn → Call → Reply
-reply_to state turn call = (outcome_of state turn call).reply
+reply_to state turn call = (call_outcome state turn call).reply
 
 -- whether the call changes the repository
-abbrev pub changes : State → Turn → Call → Bool
-changes state turn call = is_some (outcome_of state turn call).after
+abbrev pub changes_repository : State → Turn → Call → Bool
+changes_repository state turn call = is_some (call_outcome state turn call).after
 
 -- the state with that line behind the others
 abbrev pub with_entry : State → Line → State
@@ -48,7 +48,7 @@ with_entry state line = record state { journal = state.journal ++ line ∷ [] }
 -- where it doesn't
 abbrev pub after_call : State → ℕ → Turn → Call → State
 after_call state caller turn call =
-    if changes state turn call then with_entry state (line_of caller turn call) else state
+    if changes_repository state turn call then with_entry state (line_of caller turn call) else state
 
 -- the call asks, and changes nothing
 abbrev pub AnswersOnly : Call → Type 0

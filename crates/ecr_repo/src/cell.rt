@@ -3,7 +3,7 @@ ghost use Rattle.std.specs.Prelude.{◌≡◌, [], ◌∷◌, IfOk, OnErr, None,
 ghost use Rattle.ecr_model.specs.registry.Contents.{AreContents};
 ghost use Rattle.ecr_model.specs.declared.requests.reply.Reply.TheVariants as replies;
 ghost use Rattle.ecr_model.specs.registry.Steps.{first_state, creates, deletes, describes, sets_mutability, same_mutability};
-ghost use Rattle.ecr_repo.specs.Cells.{IsDone, IsMade, IsAnswered, row_of};
+ghost use Rattle.ecr_repo.specs.Cells.{IsDone, IsMade, AnswersUnchanged, row_of};
 ghost use Rattle.ecr_repo.specs.States.{AnswersOnly};
 
 use ecr_blob_upload::Outcome;
@@ -41,7 +41,7 @@ impl Cell {
     #[tactic(auto, unfolding(ecr_model::specs::registry::Steps::step))]
     pub(crate) fn answer(&self, alloc: Global, key: &RepoKey, call: &Call) -> Result<Outcome, Mem>
         requires { AnswersOnly call.now }
-        ensures { IfOk result (λ out. IsAnswered key.now call.now self.now out) }
+        ensures { IfOk result (λ out. AnswersUnchanged key.now call.now self.now out) }
     {
         match call {
             Call::Describe => self.describe(alloc, key),

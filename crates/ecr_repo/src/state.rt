@@ -2,8 +2,8 @@
 ghost use Rattle.std.specs.Prelude.{◌≡◌, ◌≤◌, ◌<◌, ◌∷◌, ◌++◌, [], false, IfOk, OnOk, OnErr, length, vec_len, vec_capacity, if◌then◌else◌};
 ghost use Rattle.ecr_model.specs.registry.Contents.{AreContents};
 ghost use Rattle.ecr_model.specs.registry.Journals.{past};
-ghost use Rattle.ecr_model.specs.registry.Steps.{Turn, IsSound, line_of};
-ghost use Rattle.ecr_repo.specs.States.{AnswersOnly, Fits, turn_at, reply_to, changes, after_call};
+ghost use Rattle.ecr_model.specs.registry.Steps.{Turn, IsSoundRepository, line_of};
+ghost use Rattle.ecr_repo.specs.States.{AnswersOnly, Fits, unsealed_turn, reply_to, changes_repository, after_call};
 
 use crate::cell::Cell;
 use ecr_blob_upload::{Load, Outcome};
@@ -88,12 +88,13 @@ impl RepoState {
         requires later { past self.old.journal ≤ ticket }
         requires fits { Fits call.now load destinations.items }
         ensures reply { IfOk result
-            (λ out. out.reply ≡ reply_to self.old (turn_at ticket moment destinations.items) call.now) }
+            (λ out. out.reply ≡ reply_to self.old (unsealed_turn ticket moment destinations.items) call.now) }
         ensures changed { IfOk result
-            (λ out. out.changed ≡ changes self.old (turn_at ticket moment destinations.items) call.now) }
+            (λ out. out.changed
+            ≡ changes_repository self.old (unsealed_turn ticket moment destinations.items) call.now) }
         ensures contents { IfOk result (λ out. AreContents out.reply out.blobs.items) }
         ensures entered { OnOk result
-            (self.new ≡ after_call self.old caller (turn_at ticket moment destinations.items) call.now) }
+            (self.new ≡ after_call self.old caller (unsealed_turn ticket moment destinations.items) call.now) }
         ensures err { OnErr result (self.new ≡ self.old) }
     {
         // All memory is taken before anything changes.
@@ -107,14 +108,14 @@ impl RepoState {
 
 /// The journal of every state is sound.
 pub fn a_journal_is_sound(state: &RepoState)
-    ensures { IsSound state.now.key state.now.limits state.now.journal }
+    ensures { IsSoundRepository state.now.key state.now.limits state.now.journal }
 {
     let _ = &state.journal;
 }
 
 // The line of a call in a turn.
 fn line_of(ticket: u64, caller: u64, call: Call, destinations: Vec<SiteId>, moment: Moment) -> Line
-    ensures { result ≡ line_of caller (turn_at ticket moment destinations.items) call }
+    ensures { result ≡ line_of caller (unsealed_turn ticket moment destinations.items) call }
 {
     Line {
         ticket,

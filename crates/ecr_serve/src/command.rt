@@ -1,6 +1,6 @@
 // A command for one caller.
 ghost use Rattle.std.specs.Prelude.{◌≡◌, ◌<◌, [], ℕ, List, Option, length, map, string_bytes};
-ghost use Rattle.ecr_model.specs.sessions.Commands.{IsNoCommand, IsSession, RunsSession, SaysUsage, status_of, usage_lines};
+ghost use Rattle.ecr_model.specs.sessions.Commands.{IsNoCommand, IsSession, RunsSession, SaysUsage, exit_status, usage_lines};
 ghost use Rattle.ecr_model.specs.declared.names.SiteId.{SiteId};
 ghost use Rattle.ecr_http.specs.Sends.{Sends};
 
@@ -37,7 +37,7 @@ pub fn solo<S: Source, K: Sink, C: Clock>(
     sink: &mut K,
     clock: &mut C,
 ) -> Ended
-    ensures status { result.status ≡ status_of result.end }
+    ensures status { result.status ≡ exit_status result.end }
 
     // The words are told apart exactly.
     ensures usage_only { result.end ≡ End.Usage → IsNoCommand (map string_bytes words.now) }
@@ -70,7 +70,7 @@ fn serve<S: Source, K: Sink, C: Clock>(
     clock: &mut C,
 ) -> Ended
     requires { 0 < length command.sites }
-    ensures status { result.status ≡ status_of result.end }
+    ensures status { result.status ≡ exit_status result.end }
     ensures runs { RunsSession command.sites command.fixed
         (record { left = S.left source.old; held = K.held sink.old; told = C.told clock.old; read_faults = S.faults source.old; write_faults = K.faults sink.old })
         (record { left = S.left source.new; held = K.held sink.new; told = C.told clock.new; read_faults = S.faults source.new; write_faults = K.faults sink.new })
@@ -111,7 +111,7 @@ fn usage_text() -> &'static [u8]
 }
 
 fn with_status(end: End, cuts: Vec<Cut>) -> Ended
-    ensures status { result.status ≡ status_of end }
+    ensures status { result.status ≡ exit_status end }
     ensures end { result.end ≡ end }
     ensures cuts { result.cuts.items ≡ cuts.items }
 {

@@ -26,7 +26,7 @@ use Rattle.ecr_model.specs.requests.Requests.{Decided, plain, asked_script, call
 use Rattle.ecr_model.specs.registry.Scripts.{ends, count_changed}
 use Rattle.ecr_model.specs.registry.Views.{places_of}
 use Rattle.ecr_model.specs.http.Stream.{closes}
-use Rattle.ecr_api.specs.Readings.{Reads}
+use Rattle.ecr_api.specs.Readings.{HasReading}
 use Rattle.ecr_api.specs.declared.asked.ApiRefusal.{ApiRefusal}
 use Rattle.ecr_api.specs.declared.asked.ApiRefusal.TheVariants as api_refusals
 use Rattle.ecr_desk.specs.Desks.{DeskState}
@@ -49,9 +49,9 @@ unfolding posed_of
 posed_of-api served request r is reads = cond-true _ _ _ is ∙ ap api reads
 
 -- why a body is refused, where it is
-pub Reads-refused : (why : ApiRefusal) (refusal : Refusal) (r : Reading) → why ≡ api_refusals.Refused refusal
-    → Reads (Err why) r → r ≡ refuses refusal
-Reads-refused why refusal r is reads = subst (λ w. Reads (Err w) r) is reads
+pub HasReading-refused : (why : ApiRefusal) (refusal : Refusal) (r : Reading) → why ≡ api_refusals.Refused refusal
+    → HasReading (Err why) r → r ≡ refuses refusal
+HasReading-refused why refusal r is reads = subst (λ w. HasReading (Err w) r) is reads
 
 -- ---- the reply to it
 

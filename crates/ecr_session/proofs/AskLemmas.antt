@@ -9,10 +9,10 @@ use Rattle.ecr_model.specs.declared.names.SiteId.{SiteId}
 use Rattle.ecr_model.specs.declared.requests.refusal.Parameter.{Parameter}
 use Rattle.ecr_model.specs.declared.requests.refusal.Parameter.TheVariants.{RegistryId, NextToken}
 use Rattle.ecr_model.specs.declared.requests.refusal.Refusal.TheVariants.{Serialization}
-use Rattle.ecr_model.specs.requests.Actions.{Asked, Made, one, several, Reading, asks, refuses, made_in, asked_in, made_by, unless_bad, values_reading, typed_reading, body_reading, action_reading, reading, site_in, text_at, members_of, action_of}
+use Rattle.ecr_model.specs.requests.Actions.{Asked, Made, one, several, Reading, asks, refuses, made_in, asked_in, made_by, unless_bad, values_reading, typed_reading, body_reading, action_reading, reading, site_in, text_of_parameter, members_of, action_of}
 use Rattle.ecr_model.specs.http.Hosts.{first_site, first_with, named_site, registry_host, api_host, site_for, without_port}
 use Rattle.ecr_model.specs.documents.Documents.{document}
-use Rattle.ecr_model.specs.requests.Members.{Valued, typed_members, digits_value, first_bad, is_decimal, place_of, site_of}
+use Rattle.ecr_model.specs.requests.Members.{Valued, typed_members, digits_value, first_bad, is_decimal, token_place, site_of_account}
 use Rattle.ecr_session.specs.Turns.{IsAskable}
 
 -- ---- the site is served
@@ -70,24 +70,24 @@ site_for-served served host some =
     (first_site-served served some)
 
 -- the site that a body names
-site_of-served : (base : SiteId) (served : List SiteId) (account : List ℕ) (s : SiteId)
-    → site_of base served account ≡ Some s → Contains served s
-unfolding site_of
-site_of-served base served account s e = Contains-find _ served s e
+site_of_account-served : (base : SiteId) (served : List SiteId) (account : List ℕ) (s : SiteId)
+    → site_of_account base served account ≡ Some s → Contains served s
+unfolding site_of_account
+site_of_account-served base served account s e = Contains-find _ served s e
 
 site_in-served : (base : SiteId) (served : List SiteId) (values : List Valued) → Contains served base
     → Contains served (site_in base served values)
 site_in-served base served values at =
-    Contains-or served base (option_and_then (site_of base served) (text_at RegistryId values))
-    (Contains-then served (text_at RegistryId values) (site_of base served) (site_of-served base served))
+    Contains-or served base (option_and_then (site_of_account base served) (text_of_parameter RegistryId values))
+    (Contains-then served (text_of_parameter RegistryId values) (site_of_account base served) (site_of_account-served base served))
     at
 
 -- ---- the first place of a page
 
-place_of-below : (text : Option (List ℕ)) → unwrap_or (option_and_then place_of text) 0 < 2 ^ 63
-unfolding place_of
-place_of-below None = omega arith
-place_of-below (Some text) = by (is_decimal text) (digits_value text) where
+token_place-below : (text : Option (List ℕ)) → unwrap_or (option_and_then token_place text) 0 < 2 ^ 63
+unfolding token_place
+token_place-below None = omega arith
+token_place-below (Some text) = by (is_decimal text) (digits_value text) where
   by : (b : Bool) (value : ℕ) → unwrap_or (cond (b && nat_lt value (2 ^ 63)) (Some value) None) 0 < 2 ^ 63
   by true value = grind (arith, nat_tests)
   by false value = omega arith
@@ -98,7 +98,7 @@ asked_in-askable : (base : SiteId) (served : List SiteId) (values : List Valued)
     → IsAskable served (asked_in base served values made)
 asked_in-askable base served values (one call) at = record { at = site_in-served base served values at; page = tt }
 asked_in-askable base served values several at =
-    record { at = site_in-served base served values at; page = place_of-below (text_at NextToken values) }
+    record { at = site_in-served base served values at; page = token_place-below (text_of_parameter NextToken values) }
 
 -- what is asked may be asked of a desk
 abbrev IsFit : List SiteId → Reading → Type 0

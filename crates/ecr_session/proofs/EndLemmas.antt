@@ -8,7 +8,7 @@ use Rattle.ecr_model.specs.declared.outcome.End.TheVariants as ends
 use Rattle.ecr_model.specs.declared.http.Section.{Section}
 use Rattle.ecr_model.specs.http.Replies.{bad_reply, long_reply, continue_reply, interim}
 use Rattle.ecr_desk.specs.Desks.{DeskState}
-use Rattle.ecr_model.specs.sessions.Sessions.{Account, Outside, SettingOf, Exchange, Chain, CompletedBy, CutOffBy, Ends, IsUnspent, ServicedBy, last_words, max_read, refusal_of, requests_of, sent_to, stands}
+use Rattle.ecr_model.specs.sessions.Sessions.{Account, Outside, SettingOf, Exchange, Chain, CompletedBy, CutOffBy, Ends, IsUnspent, ServicedBy, last_words, max_read, ending_reply, requests_of, sent_to, stands}
 use Rattle.ecr_model.specs.http.Stream.{Point, start, grown, Begins, StopsBy, Lacks, Tail, Ending, ended, closed, truncated, bad_at, long_at, more}
 use Rattle.ecr_model.proofs.lemmas.http.StreamLemmas.{Begins-append, Begins-length}
 use Rattle.ecr_http.specs.Reading.{Nexts, bytes_read}
@@ -92,7 +92,7 @@ ends_silently : (set : SettingOf DeskState) (before mid after : Outside) (point 
     (last : DeskState) (s : SoFar set before mid point account last)
     (got : List ℕ) (over : Bool) (ending : Ending) (end : End) → point.closed ≡ false → after.told ≡ mid.told
     → Consumes mid.left after.left got
-    → reading.EndsAs over (grown point got) mid.held after.held ending → refusal_of ending ≡ []
+    → reading.EndsAs over (grown point got) mid.held after.held ending → ending_reply ending ≡ []
     → (over ≡ true → IsAtEnd after.left) → Ends end ending (length (s.read ++ got))
     → bytes_read (grown point got) ≤ max_read → IsUnspent end ending (length (s.read ++ got))
     → CompletedBy IsServedOver set before after account last end
@@ -220,7 +220,7 @@ refused : (set : SettingOf DeskState) (before mid between after : Outside) (poin
     (got : List ℕ) (ending : Ending) (expected end : End) → point.closed ≡ false → Consumes mid.left after.left got
     → after.told ≡ mid.told
     → reading.EndsAs false (grown point got) mid.held between.held ending
-    → SendsLast between.held after.held (refusal_of ending) expected end
+    → SendsLast between.held after.held (ending_reply ending) expected end
     → Ends expected ending (length (s.read ++ got)) → bytes_read (grown point got) ≤ max_read
     → IsUnspent expected ending (length (s.read ++ got))
     → ((end ≡ expected) × CompletedBy IsServedOver set before after account last expected)
@@ -232,13 +232,13 @@ refused set before mid between after point account last s got ending expected en
       ends_by set before mid after point account last s got false
           (record { due = shows.0; ending = ending }) expected opened told consumed shows.1 not_over
           (Appends-trans mid.held between.held after.held (interim shows.0)
-          (refusal_of ending) shows.2 done.1) fits within unspent,
+          (ending_reply ending) shows.2 done.1) fits within unspent,
     )
 refused set before mid between after point account last s got ending expected end opened consumed told shows
     (inr cut) fits within unspent =
     let tail : Tail = record { due = shows.0; ending = ending } in
     let begins = begins_grown s.read got (requests_of s.exchanges) point s.begins in
-    let sends : Sends between.held after.held (refusal_of ending) WriteFault = cut.1 in
+    let sends : Sends between.held after.held (ending_reply ending) WriteFault = cut.1 in
     inr (
       cut.0,
       record {
@@ -246,7 +246,7 @@ refused set before mid between after point account last s got ending expected en
         exchanges = s.exchanges;
         point = grown point got;
         done = sent_to s.exchanges ++ interim shows.0;
-        piece = refusal_of ending;
+        piece = ending_reply ending;
         taken = sends.0;
         lost = sends.1;
         some = sends.4;

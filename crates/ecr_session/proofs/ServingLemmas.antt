@@ -10,7 +10,7 @@ use Rattle.ecr_model.specs.declared.outcome.End.{End}
 use Rattle.ecr_model.specs.declared.outcome.End.TheVariants as ends
 use Rattle.ecr_model.specs.http.Replies.{interim, is_head}
 use Rattle.ecr_model.specs.sessions.Sessions.{Account, Outside, SettingOf, Exchange, StandingOf, CutOffBy, IsTime, ServicedBy, account_of, answer_to, is_waiting, requests_of, sent_to, stands}
-use Rattle.ecr_model.specs.http.Stream.{Point, start, closes, grown, past, Begins}
+use Rattle.ecr_model.specs.http.Stream.{Point, start, closes, grown, past_request, Begins}
 use Rattle.ecr_model.proofs.lemmas.sessions.SessionLemmas.{Chain-more, sent_to-more}
 use Rattle.ecr_model.proofs.lemmas.http.StreamLemmas.{Begins-more}
 use Rattle.ecr_desk.specs.Desks.{DeskState}
@@ -20,7 +20,7 @@ use Rattle.ecr_http.specs.declared.events.Event.TheVariants as events
 use Rattle.ecr_http.specs.declared.reply.HttpReply.{HttpReply}
 use Rattle.ecr_http.specs.declared.write.Sent.{Sent}
 use Rattle.ecr_http.specs.declared.write.Sent.TheVariants.{Done, WriteFault}
-use Rattle.ecr_session.specs.Serving.{SoFar, HasCome, GoesOn, Answered, Answers, IsServedOver, ServesRequest, account_in, reply_bytes, standing_of, with_exchange}
+use Rattle.ecr_session.specs.Serving.{SoFar, HasCome, GoesOn, AddsExchange, Answers, IsServedOver, ServesRequest, account_in, reply_bytes, standing_of, with_exchange}
 use Rattle.ecr_session.specs.declared.session.Session.{Session}
 use Rattle.ecr_session.proofs.EndLemmas.{begins_grown, within_grown, Completed-closed}
 
@@ -92,10 +92,10 @@ serviced_more set before mid between after es e account seen later realm told s 
 -- the requests so far, and the one that was answered
 begins_more : (read got : List ℕ) (es : List Exchange) (e : Exchange) (point : Point) (request : Request) (n : ℕ)
     → e.request ≡ request
-    → Begins (start (read ++ got)) (requests_of es ++ request ∷ []) (past (grown point got) request n)
-    → Begins (start (read ++ got)) (requests_of (es ++ e ∷ [])) (past (grown point got) request n)
+    → Begins (start (read ++ got)) (requests_of es ++ request ∷ []) (past_request (grown point got) request n)
+    → Begins (start (read ++ got)) (requests_of (es ++ e ∷ [])) (past_request (grown point got) request n)
 begins_more read got es e point request n is begins =
-    subst (λ (rs : List Request). Begins (start (read ++ got)) rs (past (grown point got) request n))
+    subst (λ (rs : List Request). Begins (start (read ++ got)) rs (past_request (grown point got) request n))
     (sym (requests_of-more es e request is)) begins
 
 -- a moment, a list of places and a cut behind the others
@@ -113,7 +113,7 @@ Answers-realm before after moment request contents bytes places cut (inl a) = a.
 Answers-realm before after moment request contents bytes places cut (inr f) = f.stopped.realm_stays
 
 -- an answer, with its moment and its reply as bytes, is an exchange
-pub Answered-by : (fixed : Option ℕ) (request : Request) (before after : Outside) (old now : Session)
+pub AddsExchange-by : (fixed : Option ℕ) (request : Request) (before after : Outside) (old now : Session)
     (seen later : DeskState) (sent : Sent)
     (moment : ℕ) (reply : Option HttpReply) (places : List Place) (cut : Cut)
     → IsTime fixed before.told after.told moment
@@ -124,8 +124,8 @@ pub Answered-by : (fixed : Option ℕ) (request : Request) (before after : Outsi
     → now.cuts.items ≡ old.cuts.items ++ cut ∷ []
     → now.reader ≡ old.reader → after.left ≡ before.left
     → Sends before.held after.held (reply_bytes (is_head request) (closes request) reply) sent
-    → Answered fixed request before old seen after now later sent
-Answered-by fixed request before after old now seen later sent moment reply places cut timed a moments lists cuts reader left sends =
+    → AddsExchange fixed request before old seen after now later sent
+AddsExchange-by fixed request before after old now seen later sent moment reply places cut timed a moments lists cuts reader left sends =
     let bytes : List ℕ = reply_bytes (is_head request) (closes request) reply in
     let e : Exchange = record {
       request = request;
@@ -156,7 +156,7 @@ HasCome-serviced : (set : SettingOf DeskState) (before mid between after : Outsi
     → seen.realm ≡ set.realm → SoFar set before mid point (account_in old) seen
     → point.closed ≡ false → Nexts mid.left mid.held point between.left between.held old.reader
     (events.Request request) → between.told ≡ mid.told
-    → Answered set.fixed request between old seen after now later Done
+    → AddsExchange set.fixed request between old seen after now later Done
     → mid.read_faults ≤ after.read_faults → mid.write_faults ≤ after.write_faults → HasCome set before after now later
 HasCome-serviced set before mid between after point old now seen later request realm s opened n told v reads writes =
     let es = s.exchanges in
@@ -195,7 +195,7 @@ CutOff-serviced : (set : SettingOf DeskState) (before mid between after : Outsid
     → seen.realm ≡ set.realm → SoFar set before mid point (account_in old) seen
     → point.closed ≡ false → Nexts mid.left mid.held point between.left between.held old.reader
     (events.Request request) → between.told ≡ mid.told
-    → Answered set.fixed request between old seen after now later WriteFault
+    → AddsExchange set.fixed request between old seen after now later WriteFault
     → CutOffBy IsServedOver set before after (account_in now) later
 CutOff-serviced set before mid between after point old now seen later request realm s opened n told v =
     let es = s.exchanges in
@@ -205,7 +205,7 @@ CutOff-serviced set before mid between after point old now seen later request re
     subst (λ a. CutOffBy IsServedOver set before after a later) (sym v.added) (record {
       read = s.read ++ n.got;
       exchanges = es ++ e ∷ [];
-      point = past (grown point n.got) request n.gives.0;
+      point = past_request (grown point n.got) request n.gives.0;
       done = sent_to es ++ due;
       piece = e.bytes;
       taken = sends.0;

@@ -148,7 +148,7 @@ abbrev pub standing_of : Option ℕ → Outside → DeskState → StandingOf Des
 standing_of fixed outside seen = record { realm = seen.realm; world = seen; fixed = fixed; told = outside.told }
 
 -- a request was answered, its exchange stands in the account behind the others, and the reply was sent, or a part of it
-pub record Answered (fixed : Option ℕ) (request : Request) (before : Outside) (old : Session) (seen : DeskState)
+pub record AddsExchange (fixed : Option ℕ) (request : Request) (before : Outside) (old : Session) (seen : DeskState)
     (after : Outside) (now : Session) (later : DeskState) (sent : Sent) : Type 0 where
   pub exchange : Exchange
   pub request_is : exchange.request ≡ request
@@ -162,11 +162,11 @@ pub record Answered (fixed : Option ℕ) (request : Request) (before : Outside) 
 abbrev pub ServesRequest : Option ℕ → Request → Outside → Session → DeskState → Outside → Session → DeskState
     → Option End → Type 0
 ServesRequest fixed request before old seen after now later None =
-    Answered fixed request before old seen after now later Done × (closes request ≡ false)
+    AddsExchange fixed request before old seen after now later Done × (closes request ≡ false)
 ServesRequest fixed request before old seen after now later (Some ends.Whole) =
-    Answered fixed request before old seen after now later Done × (closes request ≡ true)
+    AddsExchange fixed request before old seen after now later Done × (closes request ≡ true)
 ServesRequest fixed request before old seen after now later (Some ends.WriteFault) =
-    Answered fixed request before old seen after now later WriteFault
+    AddsExchange fixed request before old seen after now later WriteFault
 ServesRequest fixed request before old seen after now later (Some _) = ⊥
 
 -- the reply to bytes that are no request was sent, and the session ends like that, or a part of the reply was

@@ -1,6 +1,6 @@
 // What a request is answered.
 ghost use Rattle.std.specs.Prelude.{◌≡◌, ◌<◌, ℕ, List, codes, length, IfOk, None, OnErr};
-ghost use Rattle.ecr_api.specs.Readings.{LoadFits, Reads, meaning};
+ghost use Rattle.ecr_api.specs.Readings.{LoadFits, HasReading, meaning};
 ghost use Rattle.ecr_http.specs.Replies.{message_bytes};
 ghost use Rattle.ecr_model.specs.requests.Actions.{asks, reading};
 ghost use Rattle.ecr_model.specs.registry.Contents.{AreContents};
@@ -147,7 +147,7 @@ fn read_request(
     request: &Request,
 ) -> Result<Asked, ApiRefusal>
     requires { 0 < length served.now }
-    ensures exact { Reads result
+    ensures exact { HasReading result
         (reading (target_of request.now) request.now.body (base_of served.now request.now) served.now) }
     ensures fits { IfOk result LoadFits }
 {

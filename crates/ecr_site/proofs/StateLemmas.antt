@@ -12,11 +12,11 @@ use Rattle.ecr_model.specs.declared.registry.directory.Registered.{Registered}
 use Rattle.ecr_model.specs.declared.registry.directory.Registered.TheVariants.{New, Known, Full}
 use Rattle.ecr_model.specs.declared.registry.journal.Line.{Line}
 use Rattle.ecr_model.specs.declared.names.Name.{Name}
-use Rattle.ecr_model.specs.registry.Directories.{SiteFrame, name_order, first_directory, is_registered, registration, registered, with_name, after_line, replay, line_of}
+use Rattle.ecr_model.specs.registry.Directories.{SiteFrame, name_order, first_directory, is_registered, registration, after_registration, with_name, directory_after_line, replayed_directory, registration_line}
 use Rattle.ecr_model.specs.registry.Journals as journals
 use Rattle.ecr_model.specs.registry.Journals.{past_from, past}
 use Rattle.ecr_model.proofs.lemmas.registry.JournalLemmas.{replay_goes_on, a_sound_journal_grows}
-use Rattle.ecr_site.specs.States.{SiteJournal, frame_of_journal, directory_of, with_line, entered, after_register, IsKept}
+use Rattle.ecr_site.specs.States.{SiteJournal, frame_of_journal, directory_of, with_line, after_result, after_register, AreNamesOf}
 
 -- the order of the two doesn't matter
 bytes_eq-swap : (a b : List ℕ) → bytes_eq a b ≡ bytes_eq b a
@@ -32,13 +32,13 @@ list_any-name_order name (n ∷ ns) =
     λ i. (is_eq-slice_cmp name.text n.text ∙ bytes_eq-swap name.text n.text) i || list_any-name_order name ns i
 
 -- no name is registered at first
-pub IsKept-first : (frame : SiteFrame) → IsKept frame [] []
+pub AreNamesOf-first : (frame : SiteFrame) → AreNamesOf frame [] []
 unfolding first_directory journals.replay journals.IsSoundFrom
-IsKept-first frame = record { sound = tt; same = refl }
+AreNamesOf-first frame = record { sound = tt; same = refl }
 
 -- the names in order answer as the journal's do
 pub is_at-registered : (s : SiteJournal) (names : List Name) (name : Name)
-    → IsKept (frame_of_journal s) s.journal names
+    → AreNamesOf (frame_of_journal s) s.journal names
     → list_any (is_at (name_order name)) names ≡ is_registered name (directory_of s)
 is_at-registered s names name kept =
     list_any-name_order name names ∙ ap (λ ns. list_any (λ n. bytes_eq n.text name.text) ns) kept.same
@@ -72,32 +72,32 @@ pub after_register-beyond : (s : SiteJournal) (ticket caller : ℕ) (name : Name
 unfolding registration
 after_register-beyond s ticket caller name full =
     let d : Directory = directory_of s in
-    let line : Line = line_of ticket caller name in
+    let line : Line = registration_line ticket caller name in
     let over : Registered = Full s.limits.names (length d.names) in
     cond_both (is_registered name d) Known (cond (nat_lt (length d.names) s.limits.names) New over)
-    (λ r. entered r s line ≡ s)
+    (λ r. after_result r s line ≡ s)
     (λ known. refl)
-    (λ unknown. ap (λ b. entered (cond b New over) s line) (le-ltb (length d.names) s.limits.names full))
+    (λ unknown. ap (λ b. after_result (cond b New over) s line) (le-ltb (length d.names) s.limits.names full))
 
 -- what the line of a new name makes of the directory
-after_line-line_of : (frame : SiteFrame) (d : Directory) (ticket caller : ℕ) (name : Name)
-    → registration frame d name ≡ New → after_line frame d (line_of ticket caller name) ≡ Some (with_name name d)
-unfolding after_line
-after_line-line_of frame d ticket caller name new = ap (registered name d) new
+directory_after_line-registration_line : (frame : SiteFrame) (d : Directory) (ticket caller : ℕ) (name : Name)
+    → registration frame d name ≡ New → directory_after_line frame d (registration_line ticket caller name) ≡ Some (with_name name d)
+unfolding directory_after_line
+directory_after_line-registration_line frame d ticket caller name new = ap (after_registration name d) new
 
 -- a new name is entered at a later ticket
-pub IsKept-line_of : (frame : SiteFrame) (journal : List Line) (names : List Name) (ticket caller : ℕ) (name : Name)
-    → IsKept frame journal names → past journal ≤ ticket → registration frame (replay frame journal) name ≡ New
-    → IsKept frame (journal ++ line_of ticket caller name ∷ []) (insert_key name_order names name)
-IsKept-line_of frame journal names ticket caller name kept later new =
-    let d : Directory = replay frame journal in
-    let line : Line = line_of ticket caller name in
-    let changes : after_line frame d line ≡ Some (with_name name d) =
-    after_line-line_of frame d ticket caller name new in
-    let next : replay frame (journal ++ line ∷ []) ≡ with_name name d =
-    replay_goes_on (after_line frame) first_directory journal line ∙ ap (λ o. unwrap_or o d) changes in
+pub AreNamesOf-registration_line : (frame : SiteFrame) (journal : List Line) (names : List Name) (ticket caller : ℕ) (name : Name)
+    → AreNamesOf frame journal names → past journal ≤ ticket → registration frame (replayed_directory frame journal) name ≡ New
+    → AreNamesOf frame (journal ++ registration_line ticket caller name ∷ []) (insert_key name_order names name)
+AreNamesOf-registration_line frame journal names ticket caller name kept later new =
+    let d : Directory = replayed_directory frame journal in
+    let line : Line = registration_line ticket caller name in
+    let changes : directory_after_line frame d line ≡ Some (with_name name d) =
+    directory_after_line-registration_line frame d ticket caller name new in
+    let next : replayed_directory frame (journal ++ line ∷ []) ≡ with_name name d =
+    replay_goes_on (directory_after_line frame) first_directory journal line ∙ ap (λ o. unwrap_or o d) changes in
     record {
-      sound = a_sound_journal_grows (after_line frame) first_directory journal line
+      sound = a_sound_journal_grows (directory_after_line frame) first_directory journal line
           (with_name name d) kept.sound later changes;
       same = ap (λ ns. insert_key name_order ns name) kept.same ∙ sym (ap (λ e. e.names) next);
     }
@@ -111,5 +111,5 @@ past_from-push low (l ∷ ls) line = past_from-push (suc l.ticket) ls line
 
 -- so the next ticket is above all
 pub past-with_line : (s : SiteJournal) (ticket caller : ℕ) (name : Name)
-    → past (with_line s (line_of ticket caller name)).journal ≤ ticket + 1
-past-with_line s ticket caller name = rw (past_from-push 0 s.journal (line_of ticket caller name)) (omega arith)
+    → past (with_line s (registration_line ticket caller name)).journal ≤ ticket + 1
+past-with_line s ticket caller name = rw (past_from-push 0 s.journal (registration_line ticket caller name)) (omega arith)

@@ -9,7 +9,7 @@ use Rattle.ecr_model.specs.declared.registry.journal.Limits.{Limits}
 use Rattle.ecr_model.specs.declared.registry.journal.Line.{Line}
 use Rattle.ecr_model.specs.declared.names.Name.{Name}
 use Rattle.ecr_model.specs.declared.names.SiteId.{SiteId}
-use Rattle.ecr_model.specs.registry.Directories.{SiteFrame, SiteOutcome, registration, replay, site_step, line_of, IsSound}
+use Rattle.ecr_model.specs.registry.Directories.{SiteFrame, SiteOutcome, registration, replayed_directory, site_step, registration_line, IsSoundDirectory}
 
 -- a site's journal, the first line first, and the values that are fixed throughout it
 pub record SiteJournal : Type 0 where
@@ -24,7 +24,7 @@ frame_of_journal s = record { site = s.site; served = s.served; limits = s.limit
 
 -- the directory that the journal leads to
 abbrev pub directory_of : SiteJournal → Directory
-directory_of s = replay (frame_of_journal s) s.journal
+directory_of s = replayed_directory (frame_of_journal s) s.journal
 
 -- the result of registering the name
 abbrev pub registration_in : SiteJournal → Name → Registered
@@ -39,16 +39,16 @@ abbrev pub with_line : SiteJournal → Line → SiteJournal
 with_line s line = record s { journal = s.journal ++ line ∷ [] }
 
 -- the journal after a registration with that result: a new name's line is entered
-abbrev pub entered : Registered → SiteJournal → Line → SiteJournal
-entered New s line = with_line s line
-entered Known s line = s
-entered (Full limit count) s line = s
+abbrev pub after_result : Registered → SiteJournal → Line → SiteJournal
+after_result New s line = with_line s line
+after_result Known s line = s
+after_result (Full limit count) s line = s
 
 -- the journal after the registration at that ticket, under that caller's number
 abbrev pub after_register : SiteJournal → ℕ → ℕ → Name → SiteJournal
-after_register s ticket caller name = entered (registration_in s name) s (line_of ticket caller name)
+after_register s ticket caller name = after_result (registration_in s name) s (registration_line ticket caller name)
 
 -- the names in order are those of a sound journal
-pub record IsKept (frame : SiteFrame) (journal : List Line) (names : List Name) : Type 0 where
-  pub sound : IsSound frame journal
-  pub same : names ≡ (replay frame journal).names
+pub record AreNamesOf (frame : SiteFrame) (journal : List Line) (names : List Name) : Type 0 where
+  pub sound : IsSoundDirectory frame journal
+  pub same : names ≡ (replayed_directory frame journal).names

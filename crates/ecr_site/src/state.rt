@@ -1,6 +1,6 @@
 // A site's directory, and its changes.
 ghost use Rattle.std.specs.Prelude.{◌≡◌, ◌<◌, ◌≤◌, ◌+◌, [], None, IfOk, OnErr, OnOk, length, take, drop};
-ghost use Rattle.ecr_model.specs.registry.Directories.{is_registered, line_of, names_of, IsSound};
+ghost use Rattle.ecr_model.specs.registry.Directories.{is_registered, registration_line, names_of, IsSoundDirectory};
 ghost use Rattle.ecr_model.specs.registry.Journals.{past};
 ghost use Rattle.ecr_model.specs.declared.registry.directory.Registered.TheVariants.{New};
 ghost use Rattle.ecr_site.specs.States.{after_register, directory_of, frame_of_journal, outcome_in, registration_in, with_line};
@@ -22,14 +22,14 @@ pub struct SiteState {
 }
 
 impl Model for SiteState {
-    ghost use Rattle.ecr_site.specs.States.{SiteJournal, IsKept};
+    ghost use Rattle.ecr_site.specs.States.{SiteJournal, AreNamesOf};
 
     ghost Value = { SiteJournal };
 
     ghost view = { λ s. record { site = s.site; served = s.served.items; limits = s.limits; journal = s.journal.items } };
 
     // The names are kept in their order, so that no call replays the journal.
-    ghost invariant = { λ s. IsKept (record { site = s.site; served = s.served.items; limits = s.limits }) s.journal.items s.names.keys };
+    ghost invariant = { λ s. AreNamesOf (record { site = s.site; served = s.served.items; limits = s.limits }) s.journal.items s.names.keys };
 }
 
 impl SiteState {
@@ -151,7 +151,7 @@ fn copy_of(name: &Name) -> Result<Name, Mem>
 
 /// The line that a registration enters.
 fn line_of(ticket: u64, caller: u64, name: Name) -> Line
-    ensures { result ≡ line_of ticket caller name }
+    ensures { result ≡ registration_line ticket caller name }
 {
     Line {
         ticket,
@@ -176,7 +176,7 @@ fn part_of(alloc: Global, names: &BTreeSet<Name>, from: usize, max: usize) -> Re
 
 /// The journal of a directory is sound.
 pub fn a_journal_is_sound(state: &SiteState)
-    ensures { IsSound (frame_of_journal state.now) state.now.journal }
+    ensures { IsSoundDirectory (frame_of_journal state.now) state.now.journal }
 {
     let _ = &state.journal;
 }

@@ -138,9 +138,9 @@ named config (Some entries) = filter_map some_of (config ∷ entries)
 -- ---- the conditions
 
 -- the cause, where it holds
-abbrev pub cause_if : ℕ → Bool → Option ManifestFault
-cause_if cause true = Some (record { cause = cause; entry = 0 })
-cause_if cause false = None
+abbrev pub fault_if : ℕ → Bool → Option ManifestFault
+fault_if cause true = Some (record { cause = cause; entry = 0 })
+fault_if cause false = None
 
 -- the member `mediaType` isn't a text, or differs from the given one
 abbrev pub differs : Option (List ℕ) → Option (List ℕ) → Bool
@@ -160,11 +160,11 @@ is_two (Some n) = n == 2
 -- the fault of the manifest itself
 unfoldable pub manifest_fault : Option (List ℕ) → Data → Option ManifestFault
 manifest_fault given value = first_of (
-    cause_if 1 (not (is_some (as_object value)))
-    ∷ cause_if 2 (not (is_some (get (codes "mediaType") value)) && not (is_some given))
-    ∷ cause_if 3 (is_mistyped given (get (codes "mediaType") value))
-    ∷ cause_if 4 (not (is_image (media_of given value)) && not (is_list (media_of given value)))
-    ∷ cause_if 5 (not (is_two (whole_of (codes "schemaVersion") value)))
+    fault_if 1 (not (is_some (as_object value)))
+    ∷ fault_if 2 (not (is_some (get (codes "mediaType") value)) && not (is_some given))
+    ∷ fault_if 3 (is_mistyped given (get (codes "mediaType") value))
+    ∷ fault_if 4 (not (is_image (media_of given value)) && not (is_list (media_of given value)))
+    ∷ fault_if 5 (not (is_two (whole_of (codes "schemaVersion") value)))
     ∷ [])
 
 -- the entry that is no descriptor
@@ -176,7 +176,7 @@ is_no_descriptor entry = not (is_some entry)
 
 -- the entries aren't a list, or one is no descriptor
 abbrev pub entries_fault : Option (List (Option Descriptor)) → Option ManifestFault
-entries_fault None = cause_if 7 true
+entries_fault None = fault_if 7 true
 entries_fault (Some entries) = option_map entry_fault (position is_no_descriptor entries)
 
 -- the stated sizes, added up; 0 for a list
@@ -187,9 +187,9 @@ size_of false blobs = sum_by (λ d. d.size) blobs
 -- the fault of a descriptor in it
 unfoldable pub blobs_fault : Bool → Option Descriptor → Option (List (Option Descriptor)) → Option ManifestFault
 blobs_fault list config entries = first_of (
-    cause_if 6 (not list && not (is_some config))
+    fault_if 6 (not list && not (is_some config))
     ∷ entries_fault entries
-    ∷ cause_if 8 (not (nat_lt (size_of list (named config entries)) (2 ^ 63)))
+    ∷ fault_if 8 (not (nat_lt (size_of list (named config entries)) (2 ^ 63)))
     ∷ [])
 
 -- ---- the facts
@@ -222,31 +222,31 @@ facts_of false media blobs =
 -- ---- the reading
 
 -- the facts, where nothing is wrong
-abbrev pub answer : Option ManifestFault → Facts → Result Facts ManifestFault
-answer (Some fault) facts = Err fault
-answer None facts = Ok facts
+abbrev pub facts_or_fault : Option ManifestFault → Facts → Result Facts ManifestFault
+facts_or_fault (Some fault) facts = Err fault
+facts_or_fault None facts = Ok facts
 
 -- of the type and what the manifest names
 unfoldable pub judged : Bool → List ℕ → Option Descriptor → Option (List (Option Descriptor))
     → Result Facts ManifestFault
 judged list media config entries =
-    answer (blobs_fault list config entries) (facts_of list media (named config entries))
+    facts_or_fault (blobs_fault list config entries) (facts_of list media (named config entries))
 
 -- of the manifest, where nothing is wrong with it itself
-abbrev pub unless : Option ManifestFault → Result Facts ManifestFault → Result Facts ManifestFault
-unless (Some fault) facts = Err fault
-unless None facts = facts
+abbrev pub unless_fault : Option ManifestFault → Result Facts ManifestFault → Result Facts ManifestFault
+unless_fault (Some fault) facts = Err fault
+unless_fault None facts = facts
 
-unfoldable pub reading : Option (List ℕ) → Data → Result Facts ManifestFault
-reading given value =
+unfoldable pub manifest_reading : Option (List ℕ) → Data → Result Facts ManifestFault
+manifest_reading given value =
     let media = media_of given value in
     let list = is_list media in
-    unless (manifest_fault given value) (judged list media (config_of list value) (entries_of list value))
+    unless_fault (manifest_fault given value) (judged list media (config_of list value) (entries_of list value))
 
 -- of the JSON reading
 abbrev pub of_document : Option (List ℕ) → Option Data → Result Facts ManifestFault
 of_document given None = Err (record { cause = 1; entry = 0 })
-of_document given (Some value) = reading given value
+of_document given (Some value) = manifest_reading given value
 
 -- the facts of the bytes under the media type that was given, or the first cause that holds
 unfoldable pub facts : List ℕ → Option (List ℕ) → Result Facts ManifestFault

@@ -152,8 +152,8 @@ choose_of selection = if selects_tagged selection then Prefixes (texts_of (unwra
     else (if selects_untagged selection then Untagged else Any)
 
 -- how it counts them, where nothing is wrong with it
-abbrev pub count_of : Data → Count
-count_of selection = if counts_days selection then OlderDays (unwrap_or (count_number selection) 0)
+abbrev pub stated_count : Data → Count
+stated_count selection = if counts_days selection then OlderDays (unwrap_or (count_number selection) 0)
     else MoreThan (unwrap_or (count_number selection) 0)
 
 -- ---- a rule
@@ -190,7 +190,7 @@ abbrev pub rule_of : Data → Rule
 rule_of rule = record {
   priority = unwrap_or (priority_of rule) 0;
   choose = choose_of (selection_of rule);
-  count = count_of (selection_of rule);
+  count = stated_count (selection_of rule);
 }
 
 -- ---- the rules in the order of the list
@@ -300,10 +300,10 @@ abbrev pub policy_of : List ℕ → Option Items → Policy
 policy_of text list = record { text = text; rules = by_number (rules_of (unwrap_or list no_items)) }
 
 -- the policy, where nothing is wrong
-abbrev pub answer : Option PolicyFault → Policy → Result Policy PolicyFault
-answer (Some fault) policy = Err fault
-answer None policy = Ok policy
+abbrev pub policy_or_fault : Option PolicyFault → Policy → Result Policy PolicyFault
+policy_or_fault (Some fault) policy = Err fault
+policy_or_fault None policy = Ok policy
 
 -- the policy of a text, or its first fault: a rule's number and the cause
 unfoldable pub policy : List ℕ → Result Policy PolicyFault
-policy text = answer (policy_fault text) (policy_of text (rules_in (document text)))
+policy text = policy_or_fault (policy_fault text) (policy_of text (rules_in (document text)))

@@ -1,7 +1,6 @@
 -- Some bodies as they are read, and some replies as they are written.
 use Rattle.std.specs.Prelude.{◌≡◌, ℕ, List, [], ◌∷◌, ◌++◌, true, false, None, Some, codes}
 use Rattle.ecr_model.specs.declared.requests.call.Call.TheVariants.{Create, Delete, SetMutability}
-use Rattle.ecr_model.specs.declared.names.Name.{Name}
 use Rattle.ecr_model.specs.declared.names.RepoKey.{RepoKey}
 use Rattle.ecr_model.specs.declared.names.SiteId.{SiteId}
 use Rattle.ecr_model.specs.declared.requests.refusal.Parameter.TheVariants as parameters
@@ -13,6 +12,7 @@ use Rattle.ecr_model.specs.requests.Actions.{Reading, asks, refuses, cell, many,
 use Rattle.ecr_model.specs.requests.Refusals.{refusal_body}
 use Rattle.ecr_model.specs.requests.Rendered.{json}
 use Rattle.ecr_model.specs.names.Texts.{crlf}
+use Rattle.ecr_model.specs.examples.JournalExample.{name}
 
 -- `us-east-1/111122223333`
 abbrev pub home : SiteId
@@ -21,10 +21,6 @@ home = record { region = codes "us-east-1"; account = codes "111122223333" }
 -- another account of its region
 abbrev pub neighbour : SiteId
 neighbour = record { region = codes "us-east-1"; account = codes "444455556666" }
-
--- the name with that text
-abbrev pub name : List ℕ → Name
-name text = record { text = text }
 
 -- the repository of that name at the site
 abbrev pub key : SiteId → List ℕ → RepoKey

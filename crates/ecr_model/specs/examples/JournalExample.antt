@@ -82,17 +82,20 @@ two = record { site = app.site; served = app.site ∷ []; limits = record standa
 
 -- `b1`, then `a1`
 abbrev pub registrations : List Line
-registrations = directories.line_of 0 0 (name (codes "b1")) ∷ directories.line_of 4 0 (name (codes "a1")) ∷ []
+registrations =
+    directories.registration_line 0 0 (name (codes "b1")) ∷ directories.registration_line 4 0 (name (codes "a1")) ∷ []
 
 -- the names stand in the order of their bytes, whatever was first; a third one is refused, a known one isn't
 pub record NamesAreInOrder : Type 0 where
-  pub ordered : (directories.replay two registrations).names ≡ name (codes "a1") ∷ name (codes "b1") ∷ []
-  pub first_page : directories.site_step two (directories.replay two registrations)
+  pub ordered : (directories.replayed_directory two registrations).names ≡ name (codes "a1") ∷ name (codes "b1") ∷ []
+  pub first_page : directories.site_step two (directories.replayed_directory two registrations)
       (site_calls.Names (record { from = 0; max = 1 }))
       ≡ record { reply = site_replies.Names (name (codes "a1") ∷ []) true; act = None }
-  pub last_page : directories.site_step two (directories.replay two registrations)
+  pub last_page : directories.site_step two (directories.replayed_directory two registrations)
       (site_calls.Names (record { from = 1; max = 1 }))
       ≡ record { reply = site_replies.Names (name (codes "b1") ∷ []) false; act = None }
-  pub full : directories.registration two (directories.replay two registrations) (name (codes "c1")) ≡ Full 2 2
-  pub known : directories.registration two (directories.replay two registrations) (name (codes "b1")) ≡ Known
+  pub full : directories.registration two (directories.replayed_directory two registrations) (name (codes "c1"))
+      ≡ Full 2 2
+  pub known : directories.registration two (directories.replayed_directory two registrations) (name (codes "b1"))
+      ≡ Known
   pub before : directories.registration two (directories.directory_at two registrations 4) (name (codes "a1")) ≡ New

@@ -13,7 +13,7 @@ use Rattle.ecr_model.specs.registry.Limits.{standard}
 use Rattle.ecr_model.specs.requests.Requests.{Decided, plain, call_script}
 use Rattle.ecr_model.specs.registry.Scripts.{Script, Realm}
 use Rattle.ecr_model.specs.registry.Steps.{line_of}
-use Rattle.ecr_model.specs.registry.Views.{View, Views, journals_of, with_view, Terms, Made, Visits, answer_at, entered_in}
+use Rattle.ecr_model.specs.registry.Views.{View, Views, journals_of, with_view, Terms, PlacedTurn, Visits, answer_at, entered_in}
 
 -- a registry that serves one site
 abbrev pub realm : Realm
@@ -28,8 +28,8 @@ abbrev pub unvisited : Views
 unvisited = λ cell. None
 
 -- `team/app` was registered by caller 0
-abbrev pub registered : List Line
-registered = directories.line_of 0 0 app.name ∷ []
+abbrev pub registered_lines : List Line
+registered_lines = directories.registration_line 0 0 app.name ∷ []
 
 -- it was created by caller 0 and deleted by caller 1
 abbrev pub before : List Line
@@ -48,16 +48,16 @@ abbrev pub created : Decided
 created = plain (Created 1700000002 Immutable)
 
 -- a turn at that ticket
-abbrev pub at : CellKey → ℕ → Bool → Made
+abbrev pub at : CellKey → ℕ → Bool → PlacedTurn
 at cell ticket changed = record { place = record { cell = cell; ticket = ticket; changed = changed }; sealed = None }
 
 -- its turns: at ticket 2 of the directory, where the name is known, and at ticket 5 of the repository
-abbrev pub turns : List Made
+abbrev pub turns : List PlacedTurn
 turns = at (Directory app.site) 2 false ∷ at (Repository app) 5 true ∷ []
 
 -- its view of the directory, where it is number 3, after its turn there
 abbrev pub of_directory : View
-of_directory = record { caller = 3; past = 3; seen = registered }
+of_directory = record { caller = 3; past = 3; seen = registered_lines }
 
 -- its view of the repository with these lines
 abbrev pub of_repository : List Line → View

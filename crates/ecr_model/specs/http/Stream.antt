@@ -122,13 +122,13 @@ abbrev pub closes : Request → Bool
 closes r = says_close (head_part r)
 
 -- the point past a request of so many bytes
-abbrev pub past : Point → Request → ℕ → Point
-past p r n = record { at = (past_blank p).at + n; ahead = drop n (past_blank p).ahead; closed = closes r }
+abbrev pub past_request : Point → Request → ℕ → Point
+past_request p r n = record { at = (past_blank p).at + n; ahead = drop n (past_blank p).ahead; closed = closes r }
 
 -- these requests stand between the points, and each of them but the last leaves the session open
 abbrev pub Begins : Point → List Request → Point → Type 0
 Begins p [] q = q ≡ p
-Begins p (r ∷ rs) q = (p.closed ≡ false) × (n : ℕ) × Meets p (whole r n) × Begins (past p r n) rs q
+Begins p (r ∷ rs) q = (p.closed ≡ false) × (n : ℕ) × Meets p (whole r n) × Begins (past_request p r n) rs q
 
 -- how a stream goes on after its requests
 pub data Ending : Type 0 where

@@ -60,7 +60,8 @@ ReplayOfRepositories = (key : RepoKey) (limits : Limits) → ReplayGoesOn (steps
 
 -- `ReplayGoesOn`, of each directory
 abbrev pub ReplayOfDirectories : Type 0
-ReplayOfDirectories = (frame : SiteFrame) → ReplayGoesOn (directories.after_line frame) directories.first_directory
+ReplayOfDirectories = (frame : SiteFrame)
+    → ReplayGoesOn (directories.directory_after_line frame) directories.first_directory
 
 -- `AFirstPartIsSound`, of each repository
 abbrev pub FirstPartsOfRepositories : Type 0
@@ -70,7 +71,7 @@ FirstPartsOfRepositories = (key : RepoKey) (limits : Limits)
 -- `AFirstPartIsSound`, of each directory
 abbrev pub FirstPartsOfDirectories : Type 0
 FirstPartsOfDirectories = (frame : SiteFrame)
-    → AFirstPartIsSound (directories.after_line frame) directories.first_directory
+    → AFirstPartIsSound (directories.directory_after_line frame) directories.first_directory
 
 -- `ASoundJournalGrows`, of each repository
 abbrev pub GrowthOfRepositories : Type 0
@@ -80,7 +81,7 @@ GrowthOfRepositories = (key : RepoKey) (limits : Limits)
 -- `ASoundJournalGrows`, of each directory
 abbrev pub GrowthOfDirectories : Type 0
 GrowthOfDirectories = (frame : SiteFrame)
-    → ASoundJournalGrows (directories.after_line frame) directories.first_directory
+    → ASoundJournalGrows (directories.directory_after_line frame) directories.first_directory
 
 -- `WhatWasStays`, of each repository
 abbrev pub PastOfRepositories : Type 0
@@ -88,7 +89,8 @@ PastOfRepositories = (key : RepoKey) (limits : Limits) → WhatWasStays (steps.a
 
 -- `WhatWasStays`, of each directory
 abbrev pub PastOfDirectories : Type 0
-PastOfDirectories = (frame : SiteFrame) → WhatWasStays (directories.after_line frame) directories.first_directory
+PastOfDirectories = (frame : SiteFrame)
+    → WhatWasStays (directories.directory_after_line frame) directories.first_directory
 
 -- `TheLastIsNow`, of each repository
 abbrev pub NowOfRepositories : Type 0
@@ -96,7 +98,8 @@ NowOfRepositories = (key : RepoKey) (limits : Limits) → TheLastIsNow (steps.af
 
 -- `TheLastIsNow`, of each directory
 abbrev pub NowOfDirectories : Type 0
-NowOfDirectories = (frame : SiteFrame) → TheLastIsNow (directories.after_line frame) directories.first_directory
+NowOfDirectories = (frame : SiteFrame)
+    → TheLastIsNow (directories.directory_after_line frame) directories.first_directory
 
 -- `TheLinesBetweenLeadOn`, of each repository
 abbrev pub BetweenOfRepositories : Type 0
@@ -106,4 +109,4 @@ BetweenOfRepositories = (key : RepoKey) (limits : Limits)
 -- `TheLinesBetweenLeadOn`, of each directory
 abbrev pub BetweenOfDirectories : Type 0
 BetweenOfDirectories = (frame : SiteFrame)
-    → TheLinesBetweenLeadOn (directories.after_line frame) directories.first_directory
+    → TheLinesBetweenLeadOn (directories.directory_after_line frame) directories.first_directory

@@ -60,18 +60,18 @@ abbrev pub region_of : List ℕ → List ℕ
 region_of word = take (length word - 13) word
 
 -- the last 12 bytes
-abbrev pub account_of : List ℕ → List ℕ
-account_of word = drop (length word - 12) word
+abbrev pub account_digits : List ℕ → List ℕ
+account_digits word = drop (length word - 12) word
 
 -- whether the word is a region, a `/` and an account
 unfoldable pub is_site_word : List ℕ → Bool
 is_site_word word = is_region (region_of word) && slice_index word (length word - 13) == 47 && is_account
-    (account_of word)
+    (account_digits word)
 
 -- the site as which the word reads, or none
 unfoldable pub site_of : List ℕ → Option SiteId
 site_of word =
-    if is_site_word word then Some (record { region = region_of word; account = account_of word }) else None
+    if is_site_word word then Some (record { region = region_of word; account = account_digits word }) else None
 
 -- the text, or the empty one where it isn't UTF-8
 unfoldable pub utf8_or_empty : List ℕ → List ℕ

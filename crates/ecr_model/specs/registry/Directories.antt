@@ -51,31 +51,31 @@ abbrev pub with_name : Name → Directory → Directory
 with_name name d = record d { names = insert_key name_order d.names name }
 
 -- the directory after a registration with that result, where it changes
-abbrev pub registered : Name → Directory → Registered → Option Directory
-registered name d New = Some (with_name name d)
-registered name d Known = None
-registered name d (Full limit count) = None
+abbrev pub after_registration : Name → Directory → Registered → Option Directory
+after_registration name d New = Some (with_name name d)
+after_registration name d Known = None
+after_registration name d (Full limit count) = None
 
 -- the directory after an act, where the act changes it; those of a repository don't
-abbrev pub after_act : SiteFrame → Directory → Act → Option Directory
-after_act frame d (Register name) = registered name d (registration frame d name)
-after_act frame d (Called call destinations sealed) = None
+abbrev pub directory_after_act : SiteFrame → Directory → Act → Option Directory
+directory_after_act frame d (Register name) = after_registration name d (registration frame d name)
+directory_after_act frame d (Called call destinations sealed) = None
 
 -- the directory after a line of its journal, where the line changes it
-unfoldable pub after_line : SiteFrame → Directory → Line → Option Directory
-after_line frame d line = after_act frame d line.entry.act
+unfoldable pub directory_after_line : SiteFrame → Directory → Line → Option Directory
+directory_after_line frame d line = directory_after_act frame d line.entry.act
 
 -- the directory that its journal leads to
-abbrev pub replay : SiteFrame → List Line → Directory
-replay frame lines = journals.replay (after_line frame) first_directory lines
+abbrev pub replayed_directory : SiteFrame → List Line → Directory
+replayed_directory frame lines = journals.replay (directory_after_line frame) first_directory lines
 
 -- the directory's journal is sound
-abbrev pub IsSound : SiteFrame → List Line → Type 0
-IsSound frame lines = journals.IsSound (after_line frame) first_directory lines
+abbrev pub IsSoundDirectory : SiteFrame → List Line → Type 0
+IsSoundDirectory frame lines = journals.IsSound (directory_after_line frame) first_directory lines
 
 -- the directory as at a ticket of its journal
 abbrev pub directory_at : SiteFrame → List Line → ℕ → Directory
-directory_at frame lines ticket = journals.state_at (after_line frame) first_directory lines ticket
+directory_at frame lines ticket = journals.state_at (directory_after_line frame) first_directory lines ticket
 
 -- the names of a page
 abbrev pub names_of : Page → Directory → List Name
@@ -95,9 +95,9 @@ abbrev pub site_step : SiteFrame → Directory → SiteCall → SiteOutcome
 site_step frame d (calls.Names page) = record { reply = page_reply page d; act = None }
 
 -- the entry of an act in a directory, which has no moment
-abbrev pub entry_of : Act → Entry
-entry_of act = record { moment = 0; act = act }
+abbrev pub act_entry : Act → Entry
+act_entry act = record { moment = 0; act = act }
 
 -- the line that a registration enters, under that caller's number
-abbrev pub line_of : ℕ → ℕ → Name → Line
-line_of ticket caller name = record { ticket = ticket; caller = caller; entry = entry_of (Register name) }
+abbrev pub registration_line : ℕ → ℕ → Name → Line
+registration_line ticket caller name = record { ticket = ticket; caller = caller; entry = act_entry (Register name) }

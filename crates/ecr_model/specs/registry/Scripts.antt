@@ -76,13 +76,13 @@ tells told = record { told = told; entry = None }
 
 -- a name that is registered from now on has its entry
 abbrev pub registers : Name → Registered → Turned
-registers name New = record { told = registered New; entry = Some (directories.entry_of (Register name)) }
+registers name New = record { told = registered New; entry = Some (directories.act_entry (Register name)) }
 registers name Known = tells (registered Known)
 registers name (Full limit count) = tells (registered (Full limit count))
 
 -- a call that changes the directory has its act entered
 abbrev pub acts : SiteOutcome → Turned
-acts outcome = record { told = listed outcome.reply; entry = option_map directories.entry_of outcome.act }
+acts outcome = record { told = listed outcome.reply; entry = option_map directories.act_entry outcome.act }
 
 -- a turn in a directory
 abbrev pub directory_turn : SiteFrame → Directory → Ask → Turned
@@ -172,12 +172,12 @@ parts_left s parts number = if is_uploading number s then parts number else []
 unfoldable pub parts_after : Limits → CellKey → List Line → Parts → Parts
 parts_after limits (cells.Directory site) lines parts = parts
 parts_after limits (cells.Repository key) lines parts =
-    λ k. if same_key key k then parts_left (steps.replay key limits lines) (parts k) else parts k
+    λ k. if same_key key k then parts_left (steps.replayed_repository key limits lines) (parts k) else parts k
 
 -- the number of entries
-abbrev pub count_of : Option Entry → ℕ
-count_of None = 0
-count_of (Some entry) = 1
+abbrev pub entry_count : Option Entry → ℕ
+entry_count None = 0
+entry_count (Some entry) = 1
 
 -- the number of places at which an entry was added
 abbrev pub count_changed : List Place → ℕ
@@ -224,7 +224,7 @@ unfoldable pub run : {A : Type 0} → Realm → World → Script A → Run A
 run realm world (ends a) = record { world = world; places = []; entries = 0; answer = a }
 run realm world (turn cell ask next) =
     let turned = next_turn realm world cell ask in
-    in_front (place_of cell (next_ticket world cell) turned) (count_of turned.entry)
+    in_front (place_of cell (next_ticket world cell) turned) (entry_count turned.entry)
     (run realm (entered realm world cell turned.entry) (next turned.told))
 
 -- the world after the turns of a script, up to so many entries
@@ -233,4 +233,4 @@ run_to n realm world (ends a) = world
 run_to zero realm world (turn cell ask next) = world
 run_to (suc n) realm world (turn cell ask next) =
     let turned = next_turn realm world cell ask in
-    run_to (suc n - count_of turned.entry) realm (entered realm world cell turned.entry) (next turned.told)
+    run_to (suc n - entry_count turned.entry) realm (entered realm world cell turned.entry) (next turned.told)

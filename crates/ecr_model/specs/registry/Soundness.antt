@@ -11,8 +11,8 @@ use Rattle.ecr_model.specs.registry.Steps as steps
 
 -- the journal of that cell is sound
 abbrev pub IsSoundIn : Realm → CellKey → List Line → Type 0
-IsSoundIn realm (Directory site) lines = directories.IsSound (frame_of realm site) lines
-IsSoundIn realm (Repository key) lines = steps.IsSound key realm.limits lines
+IsSoundIn realm (Directory site) lines = directories.IsSoundDirectory (frame_of realm site) lines
+IsSoundIn realm (Repository key) lines = steps.IsSoundRepository key realm.limits lines
 
 -- the journal of each cell is sound
 abbrev pub AreSound : Realm → Journals → Type 0

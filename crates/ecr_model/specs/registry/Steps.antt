@@ -164,12 +164,12 @@ unfoldable pub after_line : RepoKey → Limits → Repository → Line → Optio
 after_line key limits s line = after_act key limits s line.ticket line.entry.moment line.entry.act
 
 -- the repository that its journal leads to
-abbrev pub replay : RepoKey → Limits → List Line → Repository
-replay key limits lines = journals.replay (after_line key limits) first_state lines
+abbrev pub replayed_repository : RepoKey → Limits → List Line → Repository
+replayed_repository key limits lines = journals.replay (after_line key limits) first_state lines
 
 -- the repository's journal is sound
-abbrev pub IsSound : RepoKey → Limits → List Line → Type 0
-IsSound key limits lines = journals.IsSound (after_line key limits) first_state lines
+abbrev pub IsSoundRepository : RepoKey → Limits → List Line → Type 0
+IsSoundRepository key limits lines = journals.IsSound (after_line key limits) first_state lines
 
 -- the repository as at a ticket of its journal
 abbrev pub repository_at : RepoKey → Limits → List Line → ℕ → Repository

@@ -52,12 +52,12 @@ pub record Terms : Type 0 where
   pub alone : Bool
 
 -- a turn that was made: its place, and the digest of all parts of the upload that it completed
-pub record Made : Type 0 where
+pub record PlacedTurn : Type 0 where
   pub place : Place
   pub sealed : Option Digest
 
 -- the places of turns
-abbrev pub places_of : List Made → List Place
+abbrev pub places_of : List PlacedTurn → List Place
 places_of made = map (λ m. m.place) made
 
 -- the digest may be that of the upload that the question completes; these questions complete none
@@ -65,7 +65,7 @@ abbrev pub MaySeal : Ask → Option Digest → Type 0
 MaySeal ask sealed = sealed ≡ None
 
 -- the result of a turn that was made, over that journal
-abbrev pub result_of : Realm → CellKey → List Line → Ask → Made → Turned
+abbrev pub result_of : Realm → CellKey → List Line → Ask → PlacedTurn → Turned
 result_of realm cell lines ask made = turn_at realm cell lines made.place.ticket made.sealed ask
 
 -- the line that a turn enters, or none
@@ -81,7 +81,7 @@ KeepsCaller (Some was) (Some now) = now.caller ≡ was.caller
 
 -- the journal that is seen now is the one before, then lines of other callers, none with a ticket below the earlier `past`,
 -- and then these lines of the caller's own
-pub record Comes (was : Option View) (now : View) (own : List Line) : Type 0 where
+pub record ExtendsView (was : Option View) (now : View) (own : List Line) : Type 0 where
   pub others : List Line
   pub longer : now.seen ≡ (seen_of was ++ others) ++ own
   pub foreign : Each (λ l. l.caller ≢ now.caller) others
@@ -98,13 +98,13 @@ pub record IsNext (was : Option View) (now : View) (others : List Line) (ticket 
 -- a turn in a cell was made at that place: its line, if it has one, stands behind all that came before it. Among callers
 -- its ticket is used up; a caller that is alone uses that of a turn without an entry again
 pub record Visit (terms : Terms) (was : Option View) (now : View) (cell : CellKey) (ask : Ask)
-    (made : Made) : Type 0 where
+    (made : PlacedTurn) : Type 0 where
   pub cell_is : made.place.cell ≡ cell
   pub changed_is : made.place.changed ≡ is_some (result_of terms.realm cell now.seen ask made).entry
   pub sealed_is : MaySeal ask made.sealed
   pub fresh : past_of was ≤ made.place.ticket
   pub within : made.place.ticket ≤ now.past
-  pub comes : Comes was now
+  pub comes : ExtendsView was now
       (lines_of now.caller made.place.ticket (result_of terms.realm cell now.seen ask made).entry)
   pub rises : Rises 0 now.seen now.past
   pub shared : terms.alone ≡ false → now.past ≡ made.place.ticket + 1
@@ -113,7 +113,7 @@ pub record Visit (terms : Terms) (was : Option View) (now : View) (cell : CellKe
 -- ---- the turns of a script
 
 -- all turns of the script were made, and no other: they came to this answer, and left these views
-unfoldable pub Visits : {A : Type 0} → Terms → Views → Views → Script A → List Made → A → Type 0
+unfoldable pub Visits : {A : Type 0} → Terms → Views → Views → Script A → List PlacedTurn → A → Type 0
 Visits terms was now (ends a) [] answer = (now ≡ was) × (answer ≡ a)
 Visits terms was now (ends a) (m ∷ ms) answer = ⊥
 Visits terms was now (turn cell ask next) [] answer = ⊥
@@ -125,10 +125,10 @@ Visits terms was now (turn cell ask next) (m ∷ ms) answer =
 abbrev pub Glances : Terms → Views → CellKey → Views → Type 0
 Glances terms was cell now =
     (now ≡ was) ⊎ ((terms.alone ≡ false)
-    × ((view : View) × Comes (was cell) view [] × (now ≡ with_view was cell view)))
+    × ((view : View) × ExtendsView (was cell) view [] × (now ≡ with_view was cell view)))
 
 -- the first turns of the script were made, and no other
-unfoldable pub Halts : {A : Type 0} → Terms → Views → Views → Script A → List Made → Type 0
+unfoldable pub Halts : {A : Type 0} → Terms → Views → Views → Script A → List PlacedTurn → Type 0
 Halts terms was now (ends a) [] = now ≡ was
 Halts terms was now (ends a) (m ∷ ms) = ⊥
 Halts terms was now (turn cell ask next) [] = Glances terms was cell now
@@ -149,7 +149,7 @@ abbrev pub AreAhead : Views → Views → Type 0
 AreAhead was now = (cell : CellKey) → IsAhead (was cell) (now cell)
 
 -- the answer of a script whose turns were made so, over these journals; None where these aren't its turns
-unfoldable pub answer_at : {A : Type 0} → Realm → Journals → Script A → List Made → Option A
+unfoldable pub answer_at : {A : Type 0} → Realm → Journals → Script A → List PlacedTurn → Option A
 answer_at realm journals (ends a) [] = Some a
 answer_at realm journals (ends a) (m ∷ ms) = None
 answer_at realm journals (turn cell ask next) [] = None
@@ -157,7 +157,7 @@ answer_at realm journals (turn cell ask next) (m ∷ ms) =
     answer_at realm journals (next (result_of realm cell (journals cell) ask m).told) ms
 
 -- the lines that the turns of a script, made so by that caller over these journals, enter in a cell
-unfoldable pub entered_in : {A : Type 0} → Realm → Journals → CellKey → ℕ → Script A → List Made → List Line
+unfoldable pub entered_in : {A : Type 0} → Realm → Journals → CellKey → ℕ → Script A → List PlacedTurn → List Line
 entered_in realm journals cell caller (ends a) made = []
 entered_in realm journals cell caller (turn at ask next) [] = []
 entered_in realm journals cell caller (turn at ask next) (m ∷ ms) =
@@ -184,5 +184,5 @@ abbrev pub views_of : Journals → Views
 views_of journals = λ cell. Some (whole (journals cell))
 
 -- turns at these places in which no upload was completed
-abbrev pub unsealed : List Place → List Made
+abbrev pub unsealed : List Place → List PlacedTurn
 unsealed places = map (λ place. record { place = place; sealed = None }) places

@@ -22,7 +22,7 @@ use Rattle.ecr_model.specs.declared.requests.refusal.Refusal.TheVariants.{Invali
 use Rattle.ecr_model.specs.declared.registry.repository.Mutability.{Mutability}
 use Rattle.ecr_model.specs.declared.registry.repository.Mutability.TheVariants.{Mutable}
 use Rattle.ecr_model.specs.documents.Documents.{document}
-use Rattle.ecr_model.specs.requests.Members.{Valued, value_at, text_in, whole_in, truth_in, texts_in, place_of, rows_of, mutability_of, site_of, typed_members, first_bad}
+use Rattle.ecr_model.specs.requests.Members.{Valued, value_at, text_in, whole_in, truth_in, texts_in, token_place, rows_of, mutability_of, site_of_account, typed_members, first_bad}
 
 -- the text before an action's name in X-Amz-Target
 abbrev pub service : List ℕ
@@ -84,21 +84,25 @@ pub data Reading : Type 0 where
   refuses : Refusal → Reading
 
 -- the text of a parameter, where it is there
-abbrev pub text_at : Parameter → List Valued → Option (List ℕ)
-text_at parameter values = text_in (value_at parameter values)
+abbrev pub text_of_parameter : Parameter → List Valued → Option (List ℕ)
+text_of_parameter parameter values = text_in (value_at parameter values)
 
 -- the site that `registryId` names, or else that to which the request came
 abbrev pub site_in : SiteId → List SiteId → List Valued → SiteId
-site_in base served values = unwrap_or (option_and_then (site_of base served) (text_at RegistryId values)) base
+site_in base served values =
+    unwrap_or (option_and_then (site_of_account base served) (text_of_parameter RegistryId values)) base
 
 -- the repository of `repositoryName`
 abbrev pub key_in : SiteId → List SiteId → List Valued → RepoKey
 key_in base served values =
-    record { site = site_in base served values; name = record { text = unwrap_or (text_at RepositoryName values) [] } }
+    record {
+      site = site_in base served values;
+      name = record { text = unwrap_or (text_of_parameter RepositoryName values) [] };
+    }
 
 -- `imageTagMutability`, where it is there; else tags may move
 abbrev pub mutability_in : List Valued → Mutability
-mutability_in values = unwrap_or (option_and_then mutability_of (text_at ImageTagMutability values)) Mutable
+mutability_in values = unwrap_or (option_and_then mutability_of (text_of_parameter ImageTagMutability values)) Mutable
 
 -- `force`, where it is there; else not
 abbrev pub force_in : List Valued → Bool
@@ -112,7 +116,7 @@ names_in values = option_map (λ texts. map (λ text. record { text = text }) te
 -- the page from `nextToken` on of `maxResults` rows, where they are there; else the first page, of 100 rows
 abbrev pub page_in : List Valued → Page
 page_in values = record {
-  from = unwrap_or (option_and_then place_of (text_at NextToken values)) 0;
+  from = unwrap_or (option_and_then token_place (text_of_parameter NextToken values)) 0;
   max = unwrap_or (option_and_then rows_of (whole_in (value_at MaxResults values))) 100;
 }
 

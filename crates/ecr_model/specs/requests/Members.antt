@@ -131,13 +131,14 @@ is_decimal [] = false
 is_decimal (c ∷ rest) = list_all is_digit (c ∷ rest) && (not (c == 48) || length rest == 0)
 
 -- the place that a decimal below 2^63 is
-unfoldable pub place_of : List ℕ → Option ℕ
-place_of digits = if is_decimal digits && nat_lt (digits_value digits) (2 ^ 63) then Some
+unfoldable pub token_place : List ℕ → Option ℕ
+token_place digits = if is_decimal digits && nat_lt (digits_value digits) (2 ^ 63) then Some
     (digits_value digits) else None
 
 -- the served site of the same region with that account
-unfoldable pub site_of : SiteId → List SiteId → List ℕ → Option SiteId
-site_of base served account = find (λ site. bytes_eq site.region base.region && bytes_eq site.account account) served
+unfoldable pub site_of_account : SiteId → List SiteId → List ℕ → Option SiteId
+site_of_account base served account =
+    find (λ site. bytes_eq site.region base.region && bytes_eq site.account account) served
 
 -- the rows that a page may be asked for: 1 to 1000
 abbrev pub rows_of : ℤ → Option ℕ
@@ -155,13 +156,13 @@ are_names names = nat_le 1 (length names) && nat_le (length names) 100 && list_a
 
 -- whether the value is in the domain, for a request to that site of those that are served
 abbrev pub allows : SiteId → List SiteId → Domain → Typed → Bool
-allows base served domains.Account value = is_some (option_and_then (site_of base served) (text_in value))
+allows base served domains.Account value = is_some (option_and_then (site_of_account base served) (text_in value))
 allows base served domains.RepositoryName value = option_map_or is_name (text_in value) false
 allows base served domains.RepositoryNames value = option_map_or are_names (texts_in value) false
 allows base served domains.Mutability value = is_some (option_and_then mutability_of (text_in value))
 allows base served domains.Truth value = is_some (truth_in value)
 allows base served domains.Results value = is_some (option_and_then rows_of (whole_in value))
-allows base served domains.Token value = is_some (option_and_then place_of (text_in value))
+allows base served domains.Token value = is_some (option_and_then token_place (text_in value))
 
 -- whether the parameter, where one is given, has a value
 abbrev pub stands_beside : List Valued → Option Parameter → Bool

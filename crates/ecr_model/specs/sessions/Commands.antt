@@ -70,13 +70,13 @@ pub record RunsSession (sites : List SiteId) (fixed : Option ℕ) (before after 
       (record { moments = moments; places = places; cuts = cuts }) last end
 
 -- the exit status of a command
-abbrev pub status_of : End → ℕ
-status_of ends.Whole = 0
-status_of ends.Usage = 2
-status_of ends.ReadFault = 3
-status_of ends.WriteFault = 4
-status_of ends.Mem = 5
-status_of (ends.Truncated at) = 7
-status_of (ends.Bad at) = 8
-status_of (ends.TooLong at limit) = 8
-status_of ends.Spent = 9
+abbrev pub exit_status : End → ℕ
+exit_status ends.Whole = 0
+exit_status ends.Usage = 2
+exit_status ends.ReadFault = 3
+exit_status ends.WriteFault = 4
+exit_status ends.Mem = 5
+exit_status (ends.Truncated at) = 7
+exit_status (ends.Bad at) = 8
+exit_status (ends.TooLong at limit) = 8
+exit_status ends.Spent = 9

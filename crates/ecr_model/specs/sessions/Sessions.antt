@@ -130,14 +130,14 @@ sent_to (e ∷ es) = answer_to e ++ sent_to es
 -- ---- the end
 
 -- the reply to bytes that are no request
-abbrev pub refusal_of : Ending → List ℕ
-refusal_of (bad_at at) = bad_reply
-refusal_of (long_at at section limit) = long_reply section
-refusal_of _ = []
+abbrev pub ending_reply : Ending → List ℕ
+ending_reply (bad_at at) = bad_reply
+ending_reply (long_at at section limit) = long_reply section
+ending_reply _ = []
 
 -- the bytes that are written at the end
 abbrev pub last_words : Tail → List ℕ
-last_words tail = interim tail.due ++ refusal_of tail.ending
+last_words tail = interim tail.due ++ ending_reply tail.ending
 
 -- of this registry: the number of bytes that a session may read
 unfoldable pub max_read : ℕ
@@ -210,7 +210,7 @@ IsLast read exchanges point done piece =
     × (done ≡ sent_to earlier ++ interim (is_waiting last.request)) × (piece ≡ last.bytes))
     ⊎ (((point.closed ≡ false) × AwaitsBody point × (done ≡ sent_to exchanges) × (piece ≡ continue_reply))
     ⊎ ((over : Bool) × (tail : Tail) × Reads read over (requests_of exchanges) tail
-    × (done ≡ sent_to exchanges ++ interim tail.due) × (piece ≡ refusal_of tail.ending)))
+    × (done ≡ sent_to exchanges ++ interim tail.due) × (piece ≡ ending_reply tail.ending)))
 
 -- of sessions in which each exchange leads from one standing to the next by that relation
 module _ {W : Type 0} (serves : StandingOf W → Exchange → StandingOf W → Type 0) where

@@ -1,6 +1,6 @@
 // Whole sessions beyond one input to a fresh registry: one after another on a desk, and with a client that waits.
 ghost use Rattle.std.specs.Prelude.{◌≡◌, ◌<◌, length, None, Some};
-ghost use Rattle.ecr_cells.specs.Desks.{seen_of};
+ghost use Rattle.ecr_cells.specs.Desks.{still_state_of};
 
 use crate::tests::harness::{
     BODY, CONTINUE, CREATE, FIELDS, LENGTH, MADE_BODY, MADE_HEAD, POST, Parts, THERE, WORDS,
@@ -45,8 +45,8 @@ fn serve(
     input: &str,
     output: Parts,
 ) -> Result<(), AllocError>
-    requires { 0 < length (seen_of desk.old).realm.served }
-    ensures { (seen_of desk.new).realm ≡ (seen_of desk.old).realm }
+    requires { 0 < length (still_state_of desk.old).realm.served }
+    ensures { (still_state_of desk.new).realm ≡ (still_state_of desk.old).realm }
 {
     let bytes = Vec::from_slice(alloc, input.as_bytes())?;
     let output = joined(alloc, output)?;

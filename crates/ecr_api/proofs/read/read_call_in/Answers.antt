@@ -2,7 +2,7 @@ use Rattle.std.proofs.Common.{◌≡◌, Some, map, option_map, sym, ap, subst, 
 use Rattle.serde_json.specs.View.{view}
 use Rattle.ecr_model.specs.requests.Actions.{Reading, reading, action_reading, action_of}
 use Rattle.ecr_model.specs.documents.Documents.{document}
-use Rattle.ecr_api.specs.Readings.{Reads}
+use Rattle.ecr_api.specs.Readings.{HasReading}
 use Rattle.ecr_api.proofs.ThinLemmas.{body_reading-thin}
 use Rattle.ecr_api.proofs.read.read_call_in.Goals as goal
 
@@ -19,5 +19,5 @@ returns-in_ok-document-in-Some-clause-exact c =
     let same = body_reading-thin base served names action kept
     (document body) c.member_names.ensures c.in_ok-document-in-Some.ensures in
     let named : action_of c.args.target.now ≡ Some action = sym c.action_of.ensures ∙ c.in-Some.is in
-    subst (λ (r : Reading). Reads c.read_body.result r)
+    subst (λ (r : Reading). HasReading c.read_body.result r)
     (same ∙ ap (λ o. action_reading base served o body) (sym named)) c.read_body.ensures.exact

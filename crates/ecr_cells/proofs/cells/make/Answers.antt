@@ -3,14 +3,14 @@ use Rattle.std.proofs.lemmas.Result.{IfOk-weaker}
 use Rattle.ecr_model.specs.declared.names.SiteId.{SiteId}
 use Rattle.ecr_cells.specs.Deeds.{ask_of, told_of}
 use Rattle.ecr_cells.specs.Desks.{Changes, Turns, site_at}
-use Rattle.ecr_cells.specs.SiteCells.{Site, IsTurn, site_of}
+use Rattle.ecr_cells.specs.SiteCells.{Site, IsTurn, site_of_cell}
 use Rattle.ecr_cells.proofs.cells.make.Goals as goal
 
 pub make-requires-clause-at : goal.make-requires-clause-at
 make-requires-clause-at c =
     let sites = c.args.cells.now.entries in
     let served = c.requires.served in
-    let found : site_at sites (site_of c.args.cell) ≡ Some c.in-Some.site.now =
+    let found : site_at sites (site_of_cell c.args.cell) ≡ Some c.in-Some.site.now =
     ap (site_at sites) (sym c.site_of.ensures) ∙ sym c.in-Some.ensures.value in
     let same : c.in-Some.site.now ≡ served.kept = cc (found, served.found) in
     ap (λ (s : Site). s.directory.site) same ∙ served.site_is

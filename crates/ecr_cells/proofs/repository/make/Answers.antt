@@ -1,7 +1,7 @@
 use Rattle.std.proofs.Common.{◌≡◌, List, sym, subst}
 use Rattle.ecr_blob_upload.specs.Loads.{given}
 use Rattle.ecr_model.specs.declared.names.SiteId.{SiteId}
-use Rattle.ecr_repo.specs.States.{turn_at, reply_to, changes, after_call}
+use Rattle.ecr_repo.specs.States.{unsealed_turn, reply_to, changes_repository, after_call}
 use Rattle.ecr_cells.specs.declared.deed.Deed.{Deed}
 use Rattle.ecr_cells.specs.declared.deed.Done.TheVariants as done
 use Rattle.ecr_cells.specs.Deeds.{ask_of}
@@ -23,8 +23,8 @@ returns-in-OnRepository-clause-turned c =
     (IsRepositoryTurn-call s after n c.args.caller moment
     (given c.in-OnRepository.load) call out c.a_journal_is_sound.ensures c.requires.later
     (subst (λ (ds : List SiteId). out.reply ≡ reply_to s
-    (turn_at n moment ds) call) nowhere c.in_ok-outcome-in-OnRepository.ensures.reply)
-    (subst (λ (ds : List SiteId). out.changed ≡ changes s
-    (turn_at n moment ds) call) nowhere c.in_ok-outcome-in-OnRepository.ensures.changed)
+    (unsealed_turn n moment ds) call) nowhere c.in_ok-outcome-in-OnRepository.ensures.reply)
+    (subst (λ (ds : List SiteId). out.changed ≡ changes_repository s
+    (unsealed_turn n moment ds) call) nowhere c.in_ok-outcome-in-OnRepository.ensures.changed)
     (subst (λ (ds : List SiteId). after ≡ after_call s c.args.caller
-    (turn_at n moment ds) call) nowhere c.in_ok-outcome-in-OnRepository.ensures.entered))
+    (unsealed_turn n moment ds) call) nowhere c.in_ok-outcome-in-OnRepository.ensures.entered))

@@ -6,7 +6,7 @@ use Rattle.serde_json.specs.Data.{Data, null, boolean}
 use Rattle.serde_json.specs.View.{view}
 use Rattle.serde_json.specs.declared.value.Value.{Bool, Null, the_lemmas}
 use Rattle.ecr_json.specs.Thinning.{thin_value}
-use Rattle.ecr_json.proofs.ThinningLemmas.{paired, emptied-if, thin_value-string, thin_value-number, thin_value-boolean, thin_value-null, thin_value-array, thin_value-object, thin_value-deep}
+use Rattle.ecr_json.proofs.ThinningLemmas.{paired, emptied_list-if, thin_value-string, thin_value-number, thin_value-boolean, thin_value-null, thin_value-array, thin_value-object, thin_value-deep}
 use Rattle.ecr_json.proofs.thin.read_token.Goals as goal
 
 pub returns-in_ok-try_from_str-in-String : goal.returns-in_ok-try_from_str-in-String
@@ -49,7 +49,7 @@ pub returns-then-depth-gt0-2 : goal.returns-then-depth-gt0-2
 returns-then-depth-gt0-2 c =
     let is = ap (λ k. thin_value c.args.depth (token_of k ∷ c.args.reader.now)) c.in-BeginObject.is in
     is ∙ thin_value-object c.args.depth c.args.reader.now (omega arith)
-    ∙ emptied-if c.skip_members.result _ c.skip_members.new.reader c.empty_if.result c.skip_members.ensures c.empty_if.ensures
+    ∙ emptied_list-if c.skip_members.result _ c.skip_members.new.reader c.empty_if.result c.skip_members.ensures c.empty_if.ensures
 
 pub returns-else-depth-gt0-2 : goal.returns-else-depth-gt0-2
 returns-else-depth-gt0-2 c =

@@ -8,7 +8,7 @@ use Rattle.serde_json.proofs.OnLiterals.{serde_json_on_literals}
 use Rattle.ecr_model.specs.requests.Actions.{reading, action_of, members_of, typed_reading, values_reading, made_by, made_in}
 use Rattle.ecr_model.specs.examples.ApiExample.{BodiesAreRead, RepliesAreWritten}
 use Rattle.ecr_model.specs.documents.Documents.{document}
-use Rattle.ecr_model.specs.requests.Members.{typed_members, first_bad, place_of, is_decimal, digits_value, site_of}
+use Rattle.ecr_model.specs.requests.Members.{typed_members, first_bad, token_place, is_decimal, digits_value, site_of_account}
 use Rattle.ecr_model.specs.names.Names.{is_name}
 use Rattle.ecr_model.specs.requests.Refusals.{parameter_text, type_text, message_text, refusal_data, refusal_body}
 use Rattle.ecr_model.specs.requests.Rendered.{json, reply_data, repository_data}
@@ -17,7 +17,7 @@ use Rattle.ecr_model.specs.names.Sites.{utf8_or_empty, arn_of, uri_of}
 use Rattle.ecr_model.specs.names.Uploads.{upload_id}
 
 pub bodies_are_read : BodiesAreRead
-unfolding reading action_of members_of typed_reading values_reading made_by made_in document typed_members first_bad place_of is_decimal digits_value site_of is_name parameter_text utf8_valid_len is_utf8 chars serde_json_on_literals
+unfolding reading action_of members_of typed_reading values_reading made_by made_in document typed_members first_bad token_place is_decimal digits_value site_of_account is_name parameter_text utf8_valid_len is_utf8 chars serde_json_on_literals
 bodies_are_read = record {
   created = refl;
   immutable = refl;

@@ -15,7 +15,7 @@ use Rattle.ecr_model.specs.http.Stream.{complete, IsBody, whole, short, open_, h
 use Rattle.ecr_model.specs.sessions.Sessions.{outcome_of, written, left_by, IsServed}
 use Rattle.ecr_model.specs.http.Hosts.{site_for, named_site, without_port}
 use Rattle.ecr_model.specs.requests.Actions.{asks, cell, reading, action_of, members_of, typed_reading, values_reading, made_by, made_in}
-use Rattle.ecr_model.specs.registry.Directories.{after_line, first_directory, registration}
+use Rattle.ecr_model.specs.registry.Directories.{directory_after_line, first_directory, registration}
 use Rattle.ecr_model.specs.registry.Journals.{replay}
 use Rattle.ecr_model.specs.documents.Documents.{document}
 use Rattle.ecr_model.specs.requests.Members.{typed_members, first_bad}
@@ -49,7 +49,7 @@ ran = run example_realm fresh (posed_script creation 1700000000)
 
 -- the reply, the number of entries and the places of its turns
 answered : (ran.answer ≡ plain (Created 1700000000 Mutable)) × (ran.entries ≡ 2) × (ran.places ≡ first_places)
-unfolding posed_script asked_script call_script first_turn then_cell then_do run entered turn_at with_lines parts_after fresh replay after_line first_directory registration standard steps.step steps.first_state steps.after_line
+unfolding posed_script asked_script call_script first_turn then_cell then_do run entered turn_at with_lines parts_after fresh replay directory_after_line first_directory registration standard steps.step steps.first_state steps.after_line
 answered = (refl, refl, refl)
 
 rendered : posed_bytes creation false (Created 1700000000 Mutable) [] ≡ first_answer

@@ -24,7 +24,7 @@ unfolding replay steps.first_state steps.after_line
 lines_stand_between = record { are = refl; none = refl; all = refl; lead_on = refl }
 
 pub names_are_in_order : NamesAreInOrder
-unfolding replay directories.after_line directories.first_directory directories.registration
+unfolding replay directories.directory_after_line directories.first_directory directories.registration
 names_are_in_order = record {
   ordered = refl;
   first_page = refl;

@@ -6,11 +6,11 @@ use Rattle.ecr_model.specs.registry.Limits.{standard}
 use Rattle.ecr_model.specs.requests.Requests.{call_script, first_turn, then_cell}
 use Rattle.ecr_model.specs.registry.Scripts.{then_do, turn_at}
 use Rattle.ecr_model.specs.registry.Steps as steps
-use Rattle.ecr_model.specs.examples.ViewExample.{before, of_directory, of_repository, registered, creation, ACallIsVisited}
+use Rattle.ecr_model.specs.examples.ViewExample.{before, of_directory, of_repository, registered_lines, creation, ACallIsVisited}
 use Rattle.ecr_model.specs.registry.Views.{with_view, Visits, answer_at, entered_in}
 
 pub a_call_is_visited : ACallIsVisited
-unfolding standard replay steps.step steps.first_state steps.after_line directories.after_line directories.first_directory directories.registration turn_at with_view then_do call_script first_turn then_cell Visits answer_at entered_in
+unfolding standard replay steps.step steps.first_state steps.after_line directories.directory_after_line directories.first_directory directories.registration turn_at with_view then_do call_script first_turn then_cell Visits answer_at entered_in
 a_call_is_visited = record {
   visited = (
     of_directory,
@@ -21,7 +21,7 @@ a_call_is_visited = record {
       fresh = omega arith;
       within = omega arith;
       comes = record {
-        others = registered;
+        others = registered_lines;
         longer = refl;
         foreign = (omega arith, tt);
         later = (omega arith, tt);

@@ -14,7 +14,7 @@ use Rattle.ecr_model.specs.http.Framing.{max_head, max_body, ends_empty, HasNoEn
 use Rattle.ecr_model.specs.declared.http.Section.TheVariants as sections
 use Rattle.ecr_model.specs.http.Fronts.{bad, too_long, open_, BodyFront, complete, lacks}
 use Rattle.ecr_model.specs.http.Chunks.{max_trailers, line_end, Says, Part, chunk, last_chunk, lacking, chunk_of, if_within, last_of, IsSaid, IsLined, SaysAt, IsPart, Progress, begun, past_chunk, Comes, Chunks, IsChunked}
-use Rattle.ecr_model.specs.http.Stream.{Front, whole, short, sized_front, IsBody, with_body, IsFramed, IsHeaded, ParsesTo, IsFront, blank_length, Point, start, past_blank, Meets, past, Begins, closed, Tail, ending_of, Lacks, StopsBy, Reads}
+use Rattle.ecr_model.specs.http.Stream.{Front, whole, short, sized_front, IsBody, with_body, IsFramed, IsHeaded, ParsesTo, IsFront, blank_length, Point, start, past_blank, Meets, past_request, Begins, closed, Tail, ending_of, Lacks, StopsBy, Reads}
 use Rattle.ecr_model.specs.laws.StreamLaws.{BytesHaveAReading}
 use Rattle.ecr_model.proofs.lemmas.http.ChunkLemmas.{IsPart-chunk_positive, IsPart-chunk_length, Chunks-more}
 use Rattle.ecr_model.proofs.lemmas.http.DecisionLemmas.{RequestHead_decided, Chunk_decided}
@@ -194,9 +194,9 @@ reads_step : (bytes : List ℕ) (over : Bool) (rs : List Request) (p : Point) �
     → (front : Front) → Meets p front → AReading bytes over
 reads_step bytes over rs p begins opened deeper (whole r n) meets =
     let some : (0 < n) × (n ≤ length (past_blank p).ahead) = Meets-length p r n meets in
-    let shorter : length (past p r n).ahead < length p.ahead =
+    let shorter : length (past_request p r n).ahead < length p.ahead =
     omega (arith, length-drop n (past_blank p).ahead, past_blank-shortens p, some.0, some.1) in
-    deeper (rs ++ r ∷ []) (past p r n) shorter (Begins-more (start bytes) rs p r n begins opened meets)
+    deeper (rs ++ r ∷ []) (past_request p r n) shorter (Begins-more (start bytes) rs p r n begins opened meets)
 reads_step bytes over rs p begins opened deeper (short due lack) meets =
     let tail : Tail = record { due = due; ending = ending_of over (past_blank p) lack } in
     let stops : Lacks over p tail = record { front = short due lack; meets = meets; is = refl } in (

@@ -5,7 +5,7 @@ use Rattle.std.proofs.lemmas.List.{drop-append-le, drop_all}
 use Rattle.std.proofs.lemmas.List.Sums.{prefix_len-le-length}
 use Rattle.std.proofs.lemmas.List.Folds.{prefix_len-append}
 use Rattle.ecr_model.specs.declared.http.Request.{Request}
-use Rattle.ecr_model.specs.http.Stream.{is_blank, blank_length, Lack, bad, too_long, open_, Front, whole, short, IsFront, Point, start, grown, past_blank, Meets, closes, past, Begins, Ending, ended, truncated, Tail, ending_of, tail_of, Lacks, StopsBy, Stops}
+use Rattle.ecr_model.specs.http.Stream.{is_blank, blank_length, Lack, bad, too_long, open_, Front, whole, short, IsFront, Point, start, grown, past_blank, Meets, closes, past_request, Begins, Ending, ended, truncated, Tail, ending_of, tail_of, Lacks, StopsBy, Stops}
 use Rattle.ecr_model.specs.laws.StreamLaws.{is_last, RequestsAreDetermined, AnEndStays, ACutChangesNothing}
 use Rattle.ecr_model.proofs.lemmas.http.FrontLemmas.{is_settled, is_settled_lack, IsFront-nil, IsFront-unique, IsFront-whole_length, IsFront-append}
 
@@ -47,12 +47,12 @@ blank_length-skipped bytes =
 -- where it is said what comes next, a byte follows the blank ones
 pub Meets-some : (p : Point) (front : Front) → is_settled front ≡ true → Meets p front
     → blank_length p.ahead < length p.ahead
-Meets-some p front settled meets = ⊎_elim (λ before. before) (λ past. absurd (empty past))
+Meets-some p front settled meets = ⊎_elim (λ before. before) (λ after. absurd (empty after))
     (cases_lt (blank_length p.ahead) (length p.ahead))
   where
     empty : length p.ahead ≤ blank_length p.ahead → ⊥
-    empty past =
-        let nothing : drop (blank_length p.ahead) p.ahead ≡ [] = drop_all (blank_length p.ahead) p.ahead past in
+    empty after =
+        let nothing : drop (blank_length p.ahead) p.ahead ≡ [] = drop_all (blank_length p.ahead) p.ahead after in
         let clash : front ≡ short false open_ = IsFront-unique (past_blank p).at [] front (short false open_)
         (subst (λ (x : List ℕ). IsFront (past_blank p).at x front) nothing meets) (IsFront-nil (past_blank p).at) in
         let none : is_settled (short false open_) ≡ true = sym (ap is_settled clash) ∙ settled in
@@ -92,9 +92,9 @@ pub Meets-length : (p : Point) (r : Request) (n : ℕ) → Meets p (whole r n) �
     × (n ≤ length (past_blank p).ahead)
 Meets-length p r n meets = IsFront-whole_length (past_blank p).at (past_blank p).ahead r n meets
 
-past-grown : (p : Point) (others : List ℕ) (r : Request) (n : ℕ) → Meets p (whole r n)
-    → past (grown p others) r n ≡ grown (past p r n) others
-past-grown p others r n meets =
+past_request-grown : (p : Point) (others : List ℕ) (r : Request) (n : ℕ) → Meets p (whole r n)
+    → past_request (grown p others) r n ≡ grown (past_request p r n) others
+past_request-grown p others r n meets =
     let same : past_blank (grown p others) ≡ grown (past_blank p) others =
     past_blank-grown p others (Meets-some p (whole r n) refl meets) in
     ap (λ (q : Point). point (q.at + n) (drop n q.ahead) (closes r)) same
@@ -115,19 +115,19 @@ Begins-append p others (r ∷ rs) q begins = (
   begins.0,
   begins.1,
   Meets-append p others (whole r begins.1) refl begins.2,
-  subst (λ (x : Point). Begins x rs (grown q others)) (sym (past-grown p others r begins.1 begins.2))
-      (Begins-append (past p r begins.1) others rs q begins.3),
+  subst (λ (x : Point). Begins x rs (grown q others)) (sym (past_request-grown p others r begins.1 begins.2))
+      (Begins-append (past_request p r begins.1) others rs q begins.3),
 )
 
 pub Begins-more : (p : Point) (rs : List Request) (q : Point) (r : Request) (n : ℕ) → Begins p rs q → q.closed ≡ false
-    → Meets q (whole r n) → Begins p (rs ++ r ∷ []) (past q r n)
+    → Meets q (whole r n) → Begins p (rs ++ r ∷ []) (past_request q r n)
 Begins-more p [] q r n begins opened meets =
-    subst (λ (x : Point). Begins x (r ∷ []) (past q r n)) begins (opened, n, meets, refl)
+    subst (λ (x : Point). Begins x (r ∷ []) (past_request q r n)) begins (opened, n, meets, refl)
 Begins-more p (s ∷ rs) q r n begins opened meets = (
   begins.0,
   begins.1,
   begins.2,
-  Begins-more (past p s begins.1) rs q r n begins.3 opened meets,
+  Begins-more (past_request p s begins.1) rs q r n begins.3 opened meets,
 )
 
 pub Begins-length : (p : Point) (rs : List Request) (q : Point) → Begins p rs q
@@ -136,7 +136,7 @@ Begins-length p [] q begins = ap (λ (x : Point). x.at + length x.ahead) begins
 Begins-length p (r ∷ rs) q begins =
     let some : (0 < begins.1) × (begins.1 ≤ length (past_blank p).ahead) = Meets-length p r begins.1 begins.2 in
     let step : q.at + length q.ahead ≡ (past_blank p).at + begins.1 + length (drop begins.1 (past_blank p).ahead) =
-    Begins-length (past p r begins.1) rs q begins.3 in
+    Begins-length (past_request p r begins.1) rs q begins.3 in
     omega (arith, length-drop begins.1 (past_blank p).ahead, past_blank-length p)
 
 -- ---- one reading
@@ -178,10 +178,10 @@ Begins-front p over (r ∷ rs) [] q w tail begins others stops =
     (subst (λ (x : Point). Stops over x tail) others stops) begins.0 begins.2)
 Begins-front p over (r ∷ rs) (s ∷ ss) q w tail begins others stops =
     let same : (s ≡ r) × (others.1 ≡ begins.1) = same_next p r s begins.1 others.1 begins.2 others.2 in
-    let behind : past p s others.1 ≡ past p r begins.1 =
-    ap₂ (λ (x : Request) (k : ℕ). past p x k) same.0 same.1 in
+    let behind : past_request p s others.1 ≡ past_request p r begins.1 =
+    ap₂ (λ (x : Request) (k : ℕ). past_request p x k) same.0 same.1 in
     let rest : (later : List Request) × (ss ≡ rs ++ later) × Begins q later w =
-    Begins-front (past p r begins.1) over rs ss q w tail begins.3
+    Begins-front (past_request p r begins.1) over rs ss q w tail begins.3
     (subst (λ (x : Point). Begins x ss w) behind others.3) stops in
     (rest.0, ap₂ ◌∷◌ same.0 rest.1, rest.2)
 

@@ -8,7 +8,7 @@ use Rattle.std.proofs.lemmas.Bool.{and_parts, and_from, cond-true, cond-false, c
 use Rattle.std.proofs.lemmas.List.{take-append-drop}
 use Rattle.std.proofs.lemmas.Str.{utf8_valid_len-IsUtf8}
 use Rattle.ecr_model.specs.declared.names.SiteId.{SiteId}
-use Rattle.ecr_model.specs.names.Sites.{is_region_byte, is_digit, IsRegion, IsAccount, IsSite, ReadsSite, site_word, is_region, is_account, region_of, account_of, is_site_word, site_of, utf8_or_empty}
+use Rattle.ecr_model.specs.names.Sites.{is_region_byte, is_digit, IsRegion, IsAccount, IsSite, ReadsSite, site_word, is_region, is_account, region_of, account_digits, is_site_word, site_of, utf8_or_empty}
 
 -- ---- the tests of the parts
 
@@ -55,8 +55,8 @@ slash-site region account h =
     omega (arith, length-append region (47 ∷ account)) in
     ap (λ n. get_or (region ++ (47 ∷ account)) n 0) e ∙ get_or-append_seam region 47 account 0
 
-account_of-site : (region account : List ℕ) → length account ≡ 12 → account_of (region ++ (47 ∷ account)) ≡ account
-account_of-site region account h =
+account_digits-site : (region account : List ℕ) → length account ≡ 12 → account_digits (region ++ (47 ∷ account)) ≡ account
+account_digits-site region account h =
     let e : length (region ++ (47 ∷ account)) - 12 ≡ length (region ++ 47 ∷ []) =
     omega (arith, length-append region (47 ∷ account), length-append region (47 ∷ [])) in
     ap (λ n. drop n (region ++ (47 ∷ account))) e
@@ -66,13 +66,13 @@ account_of-site region account h =
 -- ---- the reader
 
 abbrev parts_of : List ℕ → SiteId
-parts_of word = record { region = region_of word; account = account_of word }
+parts_of word = record { region = region_of word; account = account_digits word }
 
 ReadsSite-is_site_word : (word : List ℕ) → IsTrue (is_site_word word) → ReadsSite word (parts_of word)
 unfolding is_site_word
 ReadsSite-is_site_word word h =
     let p = and_parts (is_region (region_of word) && get_or word (length word - 13) 0 == 47)
-    (is_account (account_of word)) h in
+    (is_account (account_digits word)) h in
     let q = and_parts (is_region (region_of word)) (get_or word (length word - 13) 0 == 47) p.0 in
     let region = (is_region-IsRegion (region_of word)).0 q.0 in
     let some : 1 ≤ length (take (length word - 13) word) = region.at_least in
@@ -83,7 +83,7 @@ ReadsSite-is_site_word word h =
           ∙ ap (λ b. region_of word ++ (b ∷ drop (suc (length word - 13)) word))
           (eqb-true (get_or word (length word - 13) 0) 47 q.1)
           ∙ ap (λ n. region_of word ++ (47 ∷ drop n word)) next;
-      form = record { region_form = region; account_form = (is_account-IsAccount (account_of word)).0 p.1 };
+      form = record { region_form = region; account_form = (is_account-IsAccount (account_digits word)).0 p.1 };
     }
 
 site_of-parts : (region account : List ℕ) → IsRegion region → IsAccount account
@@ -92,13 +92,13 @@ unfolding site_of is_site_word
 site_of-parts region account r a =
     let word = region ++ (47 ∷ account) in
     let er = region_of-site region account a.long in
-    let ea = account_of-site region account a.long in
+    let ea = account_digits-site region account a.long in
     cond-true (is_site_word word) _ _
     (and_from _ _
     (and_from _ _ (ap is_region er ∙ (is_region-IsRegion region).1 r)
     (eq-eqb (get_or word (length word - 13) 0) 47 (slash-site region account a.long)))
     (ap is_account ea ∙ (is_account-IsAccount account).1 a))
-    ∙ ap (λ l. Some (record { region = l; account = account_of word })) er
+    ∙ ap (λ l. Some (record { region = l; account = account_digits word })) er
     ∙ ap (λ l. Some (record { region = region; account = l })) ea
 
 -- a word reads as a site exactly where the reader says so
@@ -124,11 +124,11 @@ unfolding site_of
 site_of-off word h = cond-false (is_site_word word) (Some (parts_of word)) None h
 
 pub site_of-on : (word region account : List ℕ) → is_site_word word ≡ true → region ≡ region_of word
-    → account ≡ account_of word → site_of word ≡ Some (record { region = region; account = account })
+    → account ≡ account_digits word → site_of word ≡ Some (record { region = region; account = account })
 unfolding site_of
 site_of-on word region account h r a =
     cond-true (is_site_word word) (Some (parts_of word)) None h
-    ∙ ap (λ l. Some (record { region = l; account = account_of word })) (sym r)
+    ∙ ap (λ l. Some (record { region = l; account = account_digits word })) (sym r)
     ∙ ap (λ l. Some (record { region = region; account = l })) (sym a)
 
 -- where the reader says none, the word reads as no site

@@ -3,7 +3,7 @@ use Rattle.std.proofs.Common.{◌≡◌, ◌≤◌, ℕ, zero, suc, ◌+◌, ◌
 use Rattle.ecr_model.specs.declared.registry.journal.CellKey.{CellKey}
 use Rattle.ecr_model.specs.declared.registry.journal.Entry.{Entry}
 use Rattle.ecr_model.specs.declared.registry.journal.Place.{Place}
-use Rattle.ecr_model.specs.registry.Scripts.{Ask, Told, Script, ends, turn, then_do, Realm, World, Turned, run, run_to, next_turn, entered, place_of, count_of, count_changed, next_ticket}
+use Rattle.ecr_model.specs.registry.Scripts.{Ask, Told, Script, ends, turn, then_do, Realm, World, Turned, run, run_to, next_turn, entered, place_of, entry_count, count_changed, next_ticket}
 use Rattle.ecr_model.specs.laws.ScriptLaws.{RunsThen}
 
 pub run-then_do : {A B : Type 0} (realm : Realm) (world : World) (script : Script A) (next : A → Script B)
@@ -22,7 +22,7 @@ run-then_do realm world (turn cell ask told) next =
     }
 
 -- where nothing is entered the world stays
-pub entered-none : (realm : Realm) (world : World) (cell : CellKey) (entry : Option Entry) → count_of entry ≤ 0
+pub entered-none : (realm : Realm) (world : World) (cell : CellKey) (entry : Option Entry) → entry_count entry ≤ 0
     → entered realm world cell entry ≡ world
 unfolding entered
 entered-none realm world cell None none = refl
@@ -52,7 +52,7 @@ run_to-all n realm world (ends a) enough = refl
 run_to-all zero realm world (turn cell ask told) enough = sym (run-none realm world (turn cell ask told) enough)
 run_to-all (suc n) realm world (turn cell ask told) enough =
     let turned : Turned = next_turn realm world cell ask in
-    run_to-all (suc n - count_of turned.entry) realm (entered realm world cell turned.entry) (told turned.told)
+    run_to-all (suc n - entry_count turned.entry) realm (entered realm world cell turned.entry) (told turned.told)
     (omega (arith, enough))
 
 -- up to entries of the first script, the first script decides
@@ -64,13 +64,13 @@ run_to-first (suc n) realm world (ends a) next within = absurd (omega (arith, wi
 run_to-first zero realm world (turn cell ask told) next within = refl
 run_to-first (suc n) realm world (turn cell ask told) next within =
     let turned : Turned = next_turn realm world cell ask in
-    run_to-first (suc n - count_of turned.entry) realm (entered realm world cell turned.entry) (told turned.told) next
+    run_to-first (suc n - entry_count turned.entry) realm (entered realm world cell turned.entry) (told turned.told) next
     (omega (arith, within))
 
 -- up to the entries of its first turn and others, a script goes on behind that turn
 pub run_to-turn : {A : Type 0} (k m : ℕ) (realm : Realm) (world : World) (cell : CellKey) (ask : Ask)
     (told : Told → Script A)
-    → k ≡ count_of (next_turn realm world cell ask).entry + m
+    → k ≡ entry_count (next_turn realm world cell ask).entry + m
     → run_to k realm world (turn cell ask told)
     ≡ run_to m realm (entered realm world cell (next_turn realm world cell ask).entry)
     (told (next_turn realm world cell ask).told)
@@ -95,7 +95,7 @@ run_to-then n realm world (ends a) next = ap (λ k. run_to k realm world (next a
 run_to-then n realm world (turn cell ask told) next =
     let turned : Turned = next_turn realm world cell ask in
     let rest = run realm (entered realm world cell turned.entry) (told turned.told) in
-    run_to-turn (count_of turned.entry + rest.entries + n) (rest.entries + n) realm world cell ask
+    run_to-turn (entry_count turned.entry + rest.entries + n) (rest.entries + n) realm world cell ask
     (λ t. then_do (told t) next) (omega arith)
     ∙ run_to-then n realm (entered realm world cell turned.entry) (told turned.told) next
 
@@ -108,9 +108,9 @@ count_changed-append [] other = omega arith
 count_changed-append (p ∷ ps) other = omega (arith, count_changed-append ps other)
 
 -- a turn's place says that an entry was added where one was
-pub count_of-place : (entry : Option Entry) → (if is_some entry then 1 else 0) ≡ count_of entry
-count_of-place None = refl
-count_of-place (Some entry) = refl
+pub entry_count-place : (entry : Option Entry) → (if is_some entry then 1 else 0) ≡ entry_count entry
+entry_count-place None = refl
+entry_count-place (Some entry) = refl
 
 -- the places of a run say that an entry was added as often as one was
 pub count_changed-run : {A : Type 0} (realm : Realm) (world : World) (script : Script A)
@@ -121,7 +121,7 @@ count_changed-run realm world (turn cell ask told) =
     let turned : Turned = next_turn realm world cell ask in
     omega (
       arith,
-      count_of-place turned.entry,
+      entry_count-place turned.entry,
       count_changed-run realm (entered realm world cell turned.entry)
           (told turned.told),
     )

@@ -17,14 +17,14 @@ use Rattle.ecr_model.specs.declared.registry.repository.Repository as stored
 use Rattle.ecr_model.specs.registry.Directories as directories
 use Rattle.ecr_model.specs.registry.Directories.{first_directory, registration, with_name}
 use Rattle.ecr_model.specs.registry.Journals.{past, past_from, IsSoundFrom}
-use Rattle.ecr_model.specs.registry.Scripts.{Ask, knows, register, site_call, call, Script, ends, turn, Realm, World, Turned, Journals, frame_of, registers, lines_after, turn_at, same_cell, with_lines, next_ticket, next_turn, place_of, count_of, count_changed, entered, run, run_to}
+use Rattle.ecr_model.specs.registry.Scripts.{Ask, knows, register, site_call, call, Script, ends, turn, Realm, World, Turned, Journals, frame_of, registers, lines_after, turn_at, same_cell, with_lines, next_ticket, next_turn, place_of, entry_count, count_changed, entered, run, run_to}
 use Rattle.ecr_model.specs.sessions.Sessions.{Standing, Exchange, IsServed, AreServed, account_of, left_by, script_of}
 use Rattle.ecr_model.specs.laws.SessionLaws.{all_places, SessionsKeepJournalsSound, PlacesAreFresh}
 use Rattle.ecr_model.specs.registry.Soundness.{IsSoundIn, AreSound, IsAbove, DoesNotFall, AreFresh}
 use Rattle.ecr_model.specs.registry.Steps as steps
 use Rattle.ecr_model.proofs.lemmas.registry.CellLemmas.{same_key-same, same_key-self, same_site-same, same_site-self}
 use Rattle.ecr_model.proofs.lemmas.registry.JournalLemmas.{a_sound_journal_grows, the_last_is_now, past_from-ge}
-use Rattle.ecr_model.proofs.lemmas.registry.ScriptLemmas.{count_of-place, entered-none, run_to-none}
+use Rattle.ecr_model.proofs.lemmas.registry.ScriptLemmas.{entry_count-place, entered-none, run_to-none}
 
 -- ---- cells
 
@@ -43,15 +43,15 @@ same_cell-self (Repository k) = same_key-self k
 -- a registration keeps a directory's journal sound
 sound-registers : (realm : Realm) (lines : List Line) (caller ticket : ℕ) (frame : directories.SiteFrame) (name : _)
     (d : kept.Directory) (r : Registered)
-    → directories.IsSound frame lines → past lines ≤ ticket → d ≡ directories.replay frame lines
+    → directories.IsSoundDirectory frame lines → past lines ≤ ticket → d ≡ directories.replayed_directory frame lines
     → r ≡ registration frame d name
-    → directories.IsSound frame (lines_after caller ticket lines (registers name r).entry)
-unfolding directories.after_line
+    → directories.IsSoundDirectory frame (lines_after caller ticket lines (registers name r).entry)
+unfolding directories.directory_after_line
 sound-registers realm lines caller ticket frame name d New sound later now is =
-    a_sound_journal_grows (directories.after_line frame) first_directory lines
-    (record { ticket = ticket; caller = caller; entry = directories.entry_of (Register name) })
-    (with_name name (directories.replay frame lines)) sound later
-    (ap (λ x. directories.registered name (directories.replay frame lines) x)
+    a_sound_journal_grows (directories.directory_after_line frame) first_directory lines
+    (record { ticket = ticket; caller = caller; entry = directories.act_entry (Register name) })
+    (with_name name (directories.replayed_directory frame lines)) sound later
+    (ap (λ x. directories.after_registration name (directories.replayed_directory frame lines) x)
     (sym (is ∙ ap (λ x. registration frame x name) now)))
 sound-registers realm lines caller ticket frame name d Known sound later now is = sound
 sound-registers realm lines caller ticket frame name d (Full limit count) sound later now is = sound
@@ -59,15 +59,15 @@ sound-registers realm lines caller ticket frame name d (Full limit count) sound 
 -- a call keeps a repository's journal sound
 sound-replies : (key : _) (limits : _) (lines : List Line) (caller ticket : ℕ) (t : steps.Turn) (c : _)
     (s : stored.Repository) (o : Option stored.Repository)
-    → steps.IsSound key limits lines → past lines ≤ ticket → t.ticket ≡ ticket → s ≡ steps.replay key limits lines
+    → steps.IsSoundRepository key limits lines → past lines ≤ ticket → t.ticket ≡ ticket → s ≡ steps.replayed_repository key limits lines
     → o ≡ (steps.step key limits s t c).after
-    → steps.IsSound key limits (lines_after caller ticket lines (option_map (λ x. steps.entry_of t c) o))
+    → steps.IsSoundRepository key limits (lines_after caller ticket lines (option_map (λ x. steps.entry_of t c) o))
 unfolding steps.after_line
 sound-replies key limits lines caller ticket t c s None sound later at now is = sound
 sound-replies key limits lines caller ticket t c s (Some next) sound later at now is =
     a_sound_journal_grows (steps.after_line key limits) steps.first_state lines
     (record { ticket = ticket; caller = caller; entry = steps.entry_of t c }) next sound later
-    (ap (λ n. (steps.step key limits (steps.replay key limits lines) (record t { ticket = n }) c).after) (sym at)
+    (ap (λ n. (steps.step key limits (steps.replayed_repository key limits lines) (record t { ticket = n }) c).after) (sym at)
     ∙ ap (λ x. (steps.step key limits x t c).after) (sym now) ∙ sym is)
 
 -- a turn past all tickets keeps its cell's journal sound
@@ -81,7 +81,7 @@ sound-turn realm (Directory site) lines caller ticket sealed (register name) sou
     sound-registers realm lines caller ticket (frame_of realm site) name
     (directories.directory_at (frame_of realm site) lines ticket)
     (registration (frame_of realm site) (directories.directory_at (frame_of realm site) lines ticket) name) sound later
-    (the_last_is_now (directories.after_line (frame_of realm site)) first_directory lines ticket sound later) refl
+    (the_last_is_now (directories.directory_after_line (frame_of realm site)) first_directory lines ticket sound later) refl
 sound-turn realm (Directory site) lines caller ticket sealed (site_call (site_calls.Names page)) sound later = sound
 sound-turn realm (Directory site) lines caller ticket sealed (call beside c) sound later = sound
 sound-turn realm (Repository key) lines caller ticket sealed (knows name) sound later = sound
@@ -138,7 +138,7 @@ sound-run_to n realm world (ends a) sound = sound
 sound-run_to zero realm world (turn cell ask next) sound = sound
 sound-run_to (suc n) realm world (turn cell ask next) sound =
     let turned : Turned = next_turn realm world cell ask in
-    sound-run_to (suc n - count_of turned.entry) realm (entered realm world cell turned.entry) (next turned.told)
+    sound-run_to (suc n - entry_count turned.entry) realm (entered realm world cell turned.entry) (next turned.told)
     (sound-entered realm world cell ask sound)
 
 -- ---- the next tickets
@@ -190,7 +190,7 @@ later-run_to (suc n) realm world (turn at ask next) cell =
     omega (
       arith,
       later-entered realm world at turned.entry cell,
-      later-run_to (suc n - count_of turned.entry) realm
+      later-run_to (suc n - entry_count turned.entry) realm
           (entered realm world at turned.entry) (next turned.told) cell,
     )
 
@@ -281,9 +281,9 @@ reached-run realm world (turn cell ask next) =
 
 -- a place says that an entry was added where its turn has one
 changed_by : (cell : CellKey) (ticket : ℕ) (turned : Turned) (p : Place) → place_of cell ticket turned ≡ p
-    → (if p.changed then 1 else 0) ≡ count_of turned.entry
+    → (if p.changed then 1 else 0) ≡ entry_count turned.entry
 changed_by cell ticket turned p is =
-    ap (λ (x : Place). if x.changed then 1 else 0) (sym is) ∙ count_of-place turned.entry
+    ap (λ (x : Place). if x.changed then 1 else 0) (sym is) ∙ entry_count-place turned.entry
 
 -- up to the entries of its first places a run reaches them
 pub reached-run_to : {A : Type 0} (n : ℕ) (realm : Realm) (world : World) (script : Script A) (ps rest : List Place)
@@ -297,7 +297,7 @@ reached-run_to zero realm world (turn cell ask next) (p ∷ ps) rest is within =
     let after : World = entered realm world cell turned.entry in
     let first : place_of cell (next_ticket world cell) turned ≡ p = cc in
     let others : (run realm after (next turned.told)).places ≡ ps ++ rest = cc in
-    let changed : (if p.changed then 1 else 0) ≡ count_of turned.entry =
+    let changed : (if p.changed then 1 else 0) ≡ entry_count turned.entry =
     changed_by cell (next_ticket world cell) turned p first in
     let stays : after ≡ world = entered-none realm world cell turned.entry (omega (arith, changed, within)) in
     let none : run_to 0 realm after (next turned.told) ≡ world = run_to-none realm after (next turned.told) ∙ stays in
@@ -310,12 +310,12 @@ reached-run_to (suc n) realm world (turn cell ask next) (p ∷ ps) rest is withi
     let after : World = entered realm world cell turned.entry in
     let first : place_of cell (next_ticket world cell) turned ≡ p = cc in
     let others : (run realm after (next turned.told)).places ≡ ps ++ rest = cc in
-    let changed : (if p.changed then 1 else 0) ≡ count_of turned.entry =
+    let changed : (if p.changed then 1 else 0) ≡ entry_count turned.entry =
     changed_by cell (next_ticket world cell) turned p first in
     let later = later-run_to (suc n) realm world (turn cell ask next) cell in (
       subst (λ (x : Place). x.ticket ≤ past
           ((run_to (suc n) realm world (turn cell ask next)).journals x.cell)) first later,
-      reached-run_to (suc n - count_of turned.entry) realm after (next turned.told) ps rest others
+      reached-run_to (suc n - entry_count turned.entry) realm after (next turned.told) ps rest others
           (omega (arith, changed, within)),
     )
 
@@ -334,7 +334,7 @@ above-from after low s (l ∷ ls) ticket sound past =
 above-cell : (realm : Realm) (cell : CellKey) (lines : List Line) (ticket : ℕ) → IsSoundIn realm cell lines
     → past lines ≤ ticket → IsAbove lines ticket
 above-cell realm (Directory site) lines ticket sound past =
-    above-from (directories.after_line (frame_of realm site)) 0 first_directory lines ticket sound past
+    above-from (directories.directory_after_line (frame_of realm site)) 0 first_directory lines ticket sound past
 above-cell realm (Repository key) lines ticket sound past =
     above-from (steps.after_line key realm.limits) 0 steps.first_state lines ticket sound past
 

@@ -11,12 +11,12 @@ use Rattle.ecr_model.specs.declared.names.Digest.{Digest}
 use Rattle.ecr_model.specs.registry.Directories as directories
 use Rattle.ecr_model.specs.registry.Growth.{Each, Rises}
 use Rattle.ecr_model.specs.registry.Journals.{past, past_from, IsSoundFrom}
-use Rattle.ecr_model.specs.registry.Scripts.{Ask, ends, turn, Realm, World, Turned, frame_of, turn_at, same_cell, with_lines, lines_after, next_ticket, next_turn, place_of, count_of, count_changed, entered, Run, run, run_to}
+use Rattle.ecr_model.specs.registry.Scripts.{Ask, ends, turn, Realm, World, Turned, frame_of, turn_at, same_cell, with_lines, lines_after, next_ticket, next_turn, place_of, entry_count, count_changed, entered, Run, run, run_to}
 use Rattle.ecr_model.specs.registry.Soundness.{IsSoundIn, AreSound}
 use Rattle.ecr_model.specs.registry.Steps as steps
-use Rattle.ecr_model.specs.registry.Views.{View, Views, with_view, Made, places_of, result_of, lines_of, Visit, Visits, Halts, alone_in, whole, views_of, unsealed}
+use Rattle.ecr_model.specs.registry.Views.{View, Views, with_view, PlacedTurn, places_of, result_of, lines_of, Visit, Visits, Halts, alone_in, whole, views_of, unsealed}
 use Rattle.ecr_model.specs.laws.ViewLaws.{RunsVisit, IsRun, VisitsRun, IsFirst, HaltsRunTo, RunsToHalt}
-use Rattle.ecr_model.proofs.lemmas.registry.ScriptLemmas.{count_of-place, run_to-turn}
+use Rattle.ecr_model.proofs.lemmas.registry.ScriptLemmas.{entry_count-place, run_to-turn}
 use Rattle.ecr_model.proofs.lemmas.registry.SoundnessLemmas.{same_cell-same, sound-turn, sound-entered, past-after}
 use Rattle.ecr_model.proofs.lemmas.registry.ViewLemmas.{IsAhead-visit, turn_at-later, what_was_seen_stays}
 
@@ -72,12 +72,12 @@ Rises-sound after low s (l ∷ ls) sound = (sound.0, Rises-sound after (suc l.ti
 Rises-cell : (realm : Realm) (cell : CellKey) (lines : List Line) → IsSoundIn realm cell lines
     → Rises 0 lines (past lines)
 Rises-cell realm (Directory site) lines sound =
-    Rises-sound (directories.after_line (frame_of realm site)) 0 directories.first_directory lines sound
+    Rises-sound (directories.directory_after_line (frame_of realm site)) 0 directories.first_directory lines sound
 Rises-cell realm (Repository key) lines sound =
     Rises-sound (steps.after_line key realm.limits) 0 steps.first_state lines sound
 
 -- the next turn of a run as a turn that was made
-abbrev made_next : Realm → World → CellKey → Ask → Made
+abbrev made_next : Realm → World → CellKey → Ask → PlacedTurn
 made_next realm world cell ask =
     record { place = place_of cell (next_ticket world cell) (next_turn realm world cell ask); sealed = None }
 
@@ -130,12 +130,12 @@ journal-next lines others news caller ticket at entry other is none number place
 
 -- a visit by a caller that is alone and sees the whole journal is the next turn of a run
 record IsNextTurn (realm : Realm) (world : World) (cell : CellKey) (ask : Ask) (view : View)
-    (made : Made) : Type 0 where
+    (made : PlacedTurn) : Type 0 where
   result : result_of realm cell view.seen ask made ≡ next_turn realm world cell ask
   place_is : made.place ≡ place_of cell (next_ticket world cell) (next_turn realm world cell ask)
   view_is : view ≡ whole (lines_next world cell (next_turn realm world cell ask).entry)
 
-visit-is_next : (realm : Realm) (world : World) (cell : CellKey) (ask : Ask) (view : View) (made : Made)
+visit-is_next : (realm : Realm) (world : World) (cell : CellKey) (ask : Ask) (view : View) (made : PlacedTurn)
     → Visit (alone_in realm) (Some (whole (world.journals cell))) view cell ask made
     → IsNextTurn realm world cell ask view made
 visit-is_next realm world cell ask view made visit =
@@ -174,9 +174,9 @@ visit-is_next realm world cell ask view made visit =
 -- ---- runs
 
 -- a turn adds at most one entry
-count_of-few : (entry : Option Entry) → count_of entry ≤ 1
-count_of-few None = omega arith
-count_of-few (Some entry) = omega arith
+entry_count-few : (entry : Option Entry) → entry_count entry ≤ 1
+entry_count-few None = omega arith
+entry_count-few (Some entry) = omega arith
 
 module _ {A : Type 0} where
   pub runs_visit : RunsVisit A
@@ -188,7 +188,7 @@ module _ {A : Type 0} where
       let view : View = whole (lines_next world cell turned.entry) in
       let rest : Run A = run realm after (next turned.told) in
       let last : Views = views_of rest.world.journals in
-      let made : List Made = unsealed rest.places in
+      let made : List PlacedTurn = unsealed rest.places in
       let same : result_of realm cell view.seen ask (made_next realm world cell ask) ≡ turned =
       turn_at-own realm cell (world.journals cell) 0 (next_ticket world cell) None ask turned.entry in (
         view,
@@ -245,8 +245,8 @@ module _ {A : Type 0} where
       (next t.told) ms) is.result v.2)) in
       let first : IsFirst A realm after (next turned.told) now ms =
       halts_run_to realm after now (next turned.told) ms rest in
-      let counted : (if m.place.changed then 1 else 0) ≡ count_of turned.entry =
-      ap (λ (p : Place). if p.changed then 1 else 0) is.place_is ∙ count_of-place turned.entry in
+      let counted : (if m.place.changed then 1 else 0) ≡ entry_count turned.entry =
+      ap (λ (p : Place). if p.changed then 1 else 0) is.place_is ∙ entry_count-place turned.entry in
       record {
         leaves = first.leaves
             ∙ ap (λ (w : World). views_of w.journals)
@@ -266,14 +266,14 @@ module _ {A : Type 0} where
       let turned : Turned = next_turn realm world cell ask in
       let after : World = entered realm world cell turned.entry in
       let view : View = whole (lines_next world cell turned.entry) in
-      let left : ℕ = suc n - count_of turned.entry in
+      let left : ℕ = suc n - entry_count turned.entry in
       let rest = runs_to_halt left realm after (next turned.told) (sound-entered realm world cell ask sound)
       (omega (arith, within)) in
       let last : Views = views_of (run_to left realm after (next turned.told)).journals in
       let same : result_of realm cell view.seen ask (made_next realm world cell ask) ≡ turned =
       turn_at-own realm cell (world.journals cell) 0 (next_ticket world cell) None ask turned.entry in (
         made_next realm world cell ask ∷ rest.0,
-        omega (arith, count_of-place turned.entry, count_of-few turned.entry, rest.1),
+        omega (arith, entry_count-place turned.entry, entry_count-few turned.entry, rest.1),
         (
           view,
           visit-next realm world cell ask sound,

@@ -12,7 +12,7 @@ use Rattle.ecr_model.specs.registry.Directories as directories
 use Rattle.ecr_model.specs.registry.Growth.{Each, Follows}
 use Rattle.ecr_model.specs.registry.Scripts.{Ask, knows, register, site_call, call, Script, ends, turn, then_do, Realm, Turned, frame_of, directory_turn, replies, turn_at, same_cell}
 use Rattle.ecr_model.specs.registry.Steps as steps
-use Rattle.ecr_model.specs.registry.Views.{View, Views, seen_of, past_of, caller_of, journals_of, with_view, Terms, Made, places_of, result_of, lines_of, KeepsCaller, Comes, Visit, Visits, Glances, Halts, IsAhead, AreAhead, answer_at, entered_in, own_of, unsealed}
+use Rattle.ecr_model.specs.registry.Views.{View, Views, seen_of, past_of, caller_of, journals_of, with_view, Terms, PlacedTurn, places_of, result_of, lines_of, KeepsCaller, ExtendsView, Visit, Visits, Glances, Halts, IsAhead, AreAhead, answer_at, entered_in, own_of, unsealed}
 use Rattle.ecr_model.specs.laws.ViewLaws.{WhatWasSeenStays, VisitsGoOn, HaltsGoOn, VisitsHalt, AnswersStay, OwnLinesAreEntered, VisitsThen, AreParted, VisitsPart, HaltsFirst, HaltsThen}
 use Rattle.ecr_model.proofs.lemmas.registry.GrowthLemmas.{Each-append, Each-weaker}
 use Rattle.ecr_model.proofs.lemmas.registry.JournalLemmas.{what_was_stays}
@@ -58,7 +58,7 @@ Each-lines_of P caller ticket None each = tt
 Each-lines_of P caller ticket (Some entry) each = (each entry, tt)
 
 -- what came to a view goes on from it
-pub IsAhead-comes : (was : Option View) (now : View) (own : List Line) → Comes was now own
+pub IsAhead-comes : (was : Option View) (now : View) (own : List Line) → ExtendsView was now own
     → Each (λ l. past_of was ≤ l.ticket) own
     → IsAhead was (Some now)
 IsAhead-comes was now own comes late = record {
@@ -71,7 +71,7 @@ IsAhead-comes was now own comes late = record {
   onward = comes.onward;
 }
 
-pub IsAhead-visit : (terms : Terms) (was : Option View) (now : View) (cell : CellKey) (ask : Ask) (made : Made)
+pub IsAhead-visit : (terms : Terms) (was : Option View) (now : View) (cell : CellKey) (ask : Ask) (made : PlacedTurn)
     → Visit terms was now cell ask made → IsAhead was (Some now)
 IsAhead-visit terms was now cell ask made visit =
     IsAhead-comes was now (lines_of now.caller made.place.ticket
@@ -141,7 +141,7 @@ unfolding turn_at
 turn_at-later realm (Directory site) lines news ticket sealed ask late =
     let frame = frame_of realm site in
     ap (λ d. directory_turn frame d ask)
-    (what_was_stays (directories.after_line frame) directories.first_directory lines news ticket
+    (what_was_stays (directories.directory_after_line frame) directories.first_directory lines news ticket
     (all_of (λ l. ticket ≤ l.ticket) news late))
 turn_at-later realm (Repository key) lines news ticket sealed (knows name) late = refl
 turn_at-later realm (Repository key) lines news ticket sealed (register name) late = refl
@@ -161,7 +161,7 @@ what_was_seen_stays realm cell ticket sealed ask was now ahead within =
     (λ l late. omega (arith, late, within)) f.news f.later)
 
 -- a turn that was made has its result over each journal that is seen later
-result_of-later : (terms : Terms) (was later : Views) (cell : CellKey) (view : View) (ask : Ask) (made : Made)
+result_of-later : (terms : Terms) (was later : Views) (cell : CellKey) (view : View) (ask : Ask) (made : PlacedTurn)
     → Visit terms (was cell) view cell ask made → AreAhead (with_view was cell view) later
     → result_of terms.realm cell (seen_of (later cell)) ask made ≡ result_of terms.realm cell view.seen ask made
 result_of-later terms was later cell view ask made visit ahead =
@@ -170,7 +170,7 @@ result_of-later terms was later cell view ask made visit ahead =
 
 module _ {A : Type 0} where
   -- all that is seen after the turns of a script, and later
-  ahead-after : (terms : Terms) (was now later : Views) (script : Script A) (made : List Made) (answer : A)
+  ahead-after : (terms : Terms) (was now later : Views) (script : Script A) (made : List PlacedTurn) (answer : A)
       → Visits terms was now script made answer → AreAhead now later → AreAhead was later
   ahead-after terms was now later script made answer v ahead k =
       IsAhead-trans (was k) (now k) (later k) (visits_go_on terms was now script made answer v k) (ahead k)
@@ -212,7 +212,7 @@ by-was : (was : Option View) (caller : ℕ) → KeepsCaller was (Some (record { 
 by-was None caller same = refl
 by-was (Some view) caller same = ap (λ n. by n view.seen) same
 
-own_of-comes : (was : Option View) (now : View) (own : List Line) → Comes was now own → by now.caller own ≡ own
+own_of-comes : (was : Option View) (now : View) (own : List Line) → ExtendsView was now own → by now.caller own ≡ own
     → own_of (Some now) ≡ own_of was ++ own
 own_of-comes was now own comes is =
     let none : by now.caller comes.others ≡ [] = by-foreign now.caller comes.others comes.foreign in
@@ -242,7 +242,7 @@ own_of-chosen : (here : Bool) (was : Option View) (view : View) (own : List Line
 own_of-chosen true was view own there = there refl
 own_of-chosen false was view own there = sym (append-nil (own_of was))
 
-own_of-visit : (terms : Terms) (was later : Views) (at cell : CellKey) (view : View) (ask : Ask) (made : Made)
+own_of-visit : (terms : Terms) (was later : Views) (at cell : CellKey) (view : View) (ask : Ask) (made : PlacedTurn)
     → Visit terms (was at) view at ask made → AreAhead (with_view was at view) later
     → own_of (with_view was at view cell)
     ≡ own_of (was cell) ++ (if same_cell at cell
@@ -366,7 +366,7 @@ module _ {A : Type 0} where
 
 -- ---- places
 
-pub places_of-append : (made more : List Made) → places_of (made ++ more) ≡ places_of made ++ places_of more
+pub places_of-append : (made more : List PlacedTurn) → places_of (made ++ more) ≡ places_of made ++ places_of more
 places_of-append [] more = refl
 places_of-append (m ∷ ms) more = ap (λ ps. m.place ∷ ps) (places_of-append ms more)
 

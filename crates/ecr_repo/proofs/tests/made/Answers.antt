@@ -1,12 +1,12 @@
 use Rattle.std.proofs.Common.{suc, ◌≤◌, ◌+◌, sym, subst, arith}
 use Rattle.ecr_model.specs.registry.Journals.{past}
-use Rattle.ecr_repo.specs.States.{State, turn_at}
+use Rattle.ecr_repo.specs.States.{State, unsealed_turn}
 use Rattle.ecr_repo.proofs.StateLemmas.{the_next_turn_is_later}
 use Rattle.ecr_repo.proofs.tests.made.Goals as goal
 
 pub returns : goal.returns
 returns c =
-    let turn = turn_at c.args.ticket (1700000000 + c.args.ticket) c.new-nowhere.result.items in
+    let turn = unsealed_turn c.args.ticket (1700000000 + c.args.ticket) c.new-nowhere.result.items in
     let later = the_next_turn_is_later c.args.state.now c.args.caller turn c.call_of-call.result c.requires.later in
     let new : past c.change.new.self.journal ≤ suc c.args.ticket =
     subst (λ (s : State). past s.journal ≤ suc c.args.ticket) (sym c.in_ok-outcome.ensures.entered) later in

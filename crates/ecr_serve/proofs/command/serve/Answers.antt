@@ -1,5 +1,5 @@
 use Rattle.std.proofs.Common.{◌∙◌, map}
-use Rattle.ecr_cells.specs.Desks.{seen_of}
+use Rattle.ecr_cells.specs.Desks.{still_state_of}
 use Rattle.ecr_serve.proofs.CommandLemmas.{RunsSession-nothing, RunsSession-over, RunsSession-told, fresh-seen}
 use Rattle.ecr_serve.proofs.command.serve.Goals as goal
 
@@ -11,7 +11,7 @@ pub returns-in-Ok-clause-runs : goal.returns-in-Ok-clause-runs
 returns-in-Ok-clause-runs g c =
     let told = c.session_still-ended.result in
     RunsSession-told _ _ _ _ _ told.cuts.items _ told.end c.with_status-in-Ok.ensures.cuts c.with_status-in-Ok.ensures.end
-    (RunsSession-over c.args.command.sites c.args.command.fixed (seen_of c.in-Ok.desk) _ _ told.moments.items
+    (RunsSession-over c.args.command.sites c.args.command.fixed (still_state_of c.in-Ok.desk) _ _ told.moments.items
     (map (λ v. v.items) told.places.items) told.cuts.items _ told.end
-    (fresh-seen (seen_of c.in-Ok.desk) c.args.command.sites c.into_vec.result.items c.standard.result c.in-Ok.ensures.fresh c.into_vec.ensures c.standard.ensures)
+    (fresh-seen (still_state_of c.in-Ok.desk) c.args.command.sites c.into_vec.result.items c.standard.result c.in-Ok.ensures.fresh c.into_vec.ensures c.standard.ensures)
     c.session_still-ended.ensures.serves)

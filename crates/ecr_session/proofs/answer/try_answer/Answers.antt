@@ -7,7 +7,7 @@ use Rattle.ecr_model.specs.requests.Rendered.{refused}
 use Rattle.ecr_model.specs.http.Replies.{empty_reply}
 use Rattle.ecr_api.specs.Readings.{meaning}
 use Rattle.ecr_http.specs.Replies.{message_bytes}
-use Rattle.ecr_session.proofs.AnswerLemmas.{IsReplied-refused, IsReplied-same, IsReplied-unrouted, Reads-refused, StoppedWith-same, posed_of-api, posed_of-unrouted}
+use Rattle.ecr_session.proofs.AnswerLemmas.{IsReplied-refused, IsReplied-same, IsReplied-unrouted, HasReading-refused, StoppedWith-same, posed_of-api, posed_of-unrouted}
 use Rattle.ecr_session.proofs.AskLemmas.{reading-askable, site_for-served}
 use Rattle.ecr_session.proofs.TurnLemmas.{OnErr-always, StoppedWith-nothing}
 use Rattle.ecr_session.proofs.answer.try_answer.Goals as goal
@@ -53,7 +53,7 @@ returns-in_ok-reply-in-Err-Refused-clause-replied g c =
     let request = c.args.request.now in
     let reads = subst (λ (s : List SiteId). reading (target_of request) request.body (base_of s request) s
     ≡ refuses c.in-Err-Refused.refusal) c.served.ensures.sites
-    (Reads-refused _ _ _ c.in-Err-Refused.field-0-is c.in-Err-Refused.ensures.exact) in
+    (HasReading-refused _ _ _ c.in-Err-Refused.field-0-is c.in-Err-Refused.ensures.exact) in
     let posed = posed_of-api served request _ (sym c.is_json_call.ensures ∙ c.if-not-is_json_call.false) reads in
     IsReplied-refused _ _ c.in-Err-Refused.refusal _ _ _ _ _ posed
     (ap message_bytes c.plain-in-Err-Refused.ensures.reply ∙ c.in_ok-reply-in-Err-Refused.ensures.exact

@@ -7,7 +7,7 @@ use Rattle.ecr_model.specs.registry.Scripts.{Script, ends}
 use Rattle.ecr_desk.specs.Desks.{Ran}
 use Rattle.ecr_desk.proofs.DeskLemmas.{Ran-ends}
 use Rattle.ecr_cells.specs.Deeds.{told_of}
-use Rattle.ecr_cells.specs.Desks.{state_of, places_of}
+use Rattle.ecr_cells.specs.Desks.{state_of, places_made}
 use Rattle.ecr_cells.proofs.RunLemmas.{then_cell-goes_on, then_cell-ends}
 use Rattle.ecr_cells.proofs.desk.SoloDesk.then_cell.Goals as goal
 
@@ -19,7 +19,7 @@ returns-in-None-clause-ran c =
     (told_of c.args.told) =
     then_cell-goes_on key c.args.call content c.args.moment c.args.told (sym c.refusal_of.ensures ∙ c.in-None.is) in
     subst (λ (s : Script Decided). IfOk c.cell_turn.result
-    (λ t. Ran (state_of c.args.self.now) (state_of c.cell_turn.new.self) s (plain t.0.reply) (places_of t.1))) same
+    (λ t. Ran (state_of c.args.self.now) (state_of c.cell_turn.new.self) s (plain t.0.reply) (places_made t.1))) same
     c.cell_turn.ensures.ran
 
 pub returns-clause-ran : goal.returns-clause-ran

@@ -7,7 +7,7 @@ use Rattle.ecr_model.specs.requests.Requests.{Decided, plain, call_script}
 use Rattle.ecr_desk.specs.Desks.{Ran, seen_by}
 use Rattle.ecr_desk.proofs.DeskLemmas.{Ran-call, Stopped-call, StoppedWithin-none}
 use Rattle.ecr_cells.specs.Deeds.{told_of}
-use Rattle.ecr_cells.specs.Desks.{state_of, places_of}
+use Rattle.ecr_cells.specs.Desks.{state_of, places_made}
 use Rattle.ecr_cells.proofs.WorldLemmas.{on_err_any}
 use Rattle.ecr_cells.proofs.desk.SoloDeskAnyDesk.call.Goals as goal
 
@@ -41,7 +41,7 @@ returns-clause-ran c =
     let content = given c.args.load in
     let script = call_script key c.args.call content c.args.moment in
     let reply = c.in_ok-outcome.outcome.reply in
-    let second = places_of c.in_ok-outcome.second in
+    let second = places_made c.in_ok-outcome.second in
     let answer = c.answer_of.result in
     let told : Decided = record { reply = answer.reply; sealed = answer.sealed } in
     let decided : told ≡ plain reply =

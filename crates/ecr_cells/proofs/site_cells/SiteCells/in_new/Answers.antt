@@ -3,7 +3,7 @@ use Rattle.ecr_model.specs.declared.registry.journal.CellKey.TheVariants.{Reposi
 use Rattle.ecr_model.specs.declared.names.Name.{Name}
 use Rattle.ecr_repo.specs.States.{State}
 use Rattle.ecr_cells.specs.Deeds.{ask_of, told_of}
-use Rattle.ecr_cells.specs.SiteCells.{Site, IsOfName, IsTurn, Puts, state_of, lines_of_name}
+use Rattle.ecr_cells.specs.SiteCells.{Site, IsOfName, IsTurn, Puts, state_of_name, lines_of_name}
 use Rattle.ecr_cells.proofs.SiteLemmas.{AreOfSite-put, IsOfName-new, IsTurn-repository, lines_of_name-none}
 use Rattle.ecr_cells.proofs.site_cells.SiteCells.in_new.Goals as goal
 
@@ -40,8 +40,8 @@ returns-clause-turned c =
     (c.in_ok-cell.ensures ∙ ap (λ k. record { key = k; limits = s.limits; journal = [] }) c.in_ok-copy_of.ensures) in
     let puts : Puts s.repositories.entries news name c.next_in.new.cell =
     subst (λ (n : Name). Puts s.repositories.entries news n c.next_in.new.cell) c.in_ok-name.ensures c.in_ok-put.ensures.put in
-    let absent : state_of s.repositories.entries name ≡ None =
-    ap (λ (h : Site). state_of h.repositories name) c.self.view_is ∙ c.requires.absent in
+    let absent : state_of_name s.repositories.entries name ≡ None =
+    ap (λ (h : Site). state_of_name h.repositories name) c.self.view_is ∙ c.requires.absent in
     let empty : lines_of_name s.repositories.entries name ≡ c.in_ok-cell.cell.journal =
     lines_of_name-none s.repositories.entries name absent ∙ sym (ap (λ (r : State). r.journal) c.in_ok-cell.ensures) in
     subst (λ (h : Site). IsTurn h after (Repository c.args.key) ask told c.in_ok-done.done.1) c.self.view_is

@@ -3,7 +3,7 @@ use Rattle.std.proofs.lemmas.Result.{IfOk-weaker, on_err_weaker}
 use Rattle.ecr_model.specs.declared.registry.journal.CellKey.TheVariants.{Repository}
 use Rattle.ecr_repo.specs.States.{State}
 use Rattle.ecr_cells.specs.Deeds.{ask_of, told_of}
-use Rattle.ecr_cells.specs.SiteCells.{Site, IsOfName, IsNextTurn, IsTurn, IsQuiet, Puts, state_of}
+use Rattle.ecr_cells.specs.SiteCells.{Site, IsOfName, IsNextTurn, IsTurn, IsQuiet, Puts, state_of_name}
 use Rattle.ecr_cells.proofs.SiteLemmas.{AreOfSite-put, IsQuiet-put, IsTurn-repository, lines_of_name-some}
 use Rattle.ecr_cells.proofs.site_cells.SiteCells.in_repository.Goals as goal
 
@@ -11,7 +11,7 @@ pub invariant_of-self : goal.invariant_of-self
 invariant_of-self c =
     let s = c.self.inside in
     let name = c.args.key.name in
-    let found : state_of s.repositories.entries name ≡ Some c.in-Some.cell.now = sym c.in-Some.ensures.value in
+    let found : state_of_name s.repositories.entries name ≡ Some c.in-Some.cell.now = sym c.in-Some.ensures.value in
     let is : IsOfName s.directory name c.in-Some.cell.now =
     subst (λ (o : Option State). IfSome o (IsOfName s.directory name)) found (c.self.invariant.named name) in
     let puts : Puts s.repositories.entries
@@ -32,7 +32,7 @@ returns-in-Some-clause-turned c =
     let name = c.args.key.name in
     let ask = ask_of c.args.deed in
     let news = (c.get_mut.follows.lender c.next_in.new.cell).entries in
-    let found : state_of s.repositories.entries name ≡ Some c.in-Some.cell.now = sym c.in-Some.ensures.value in
+    let found : state_of_name s.repositories.entries name ≡ Some c.in-Some.cell.now = sym c.in-Some.ensures.value in
     let is : IsOfName s.directory name c.in-Some.cell.now =
     subst (λ (o : Option State). IfSome o (IsOfName s.directory name)) found (c.self.invariant.named name) in
     let puts : Puts s.repositories.entries news name c.next_in.new.cell =
@@ -53,7 +53,7 @@ returns-in-Some-clause-err c =
     let s = c.self.inside in
     let name = c.args.key.name in
     let news = (c.get_mut.follows.lender c.next_in.new.cell).entries in
-    let found : state_of s.repositories.entries name ≡ Some c.in-Some.cell.now = sym c.in-Some.ensures.value in
+    let found : state_of_name s.repositories.entries name ≡ Some c.in-Some.cell.now = sym c.in-Some.ensures.value in
     let puts : Puts s.repositories.entries news name c.next_in.new.cell =
     ((c.get_mut.follows.holds c.next_in.new.cell).3 (ap is_some found)).0 in
     let after : Site = record { directory = s.directory; repositories = news } in

@@ -8,4 +8,4 @@ returns-clause-repositories c key limits = the_lines_between_lead_on (steps.afte
 
 pub returns-clause-directories : goal.returns-clause-directories
 returns-clause-directories c limits =
-    the_lines_between_lead_on (directories.after_line limits) directories.first_directory
+    the_lines_between_lead_on (directories.directory_after_line limits) directories.first_directory

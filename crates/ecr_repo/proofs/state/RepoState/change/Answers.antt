@@ -1,14 +1,14 @@
 use Rattle.std.proofs.Common.{◌≡◌, ◌≤◌, sym, subst, arith}
 use Rattle.ecr_model.specs.registry.Journals.{past}
 use Rattle.ecr_model.specs.registry.Steps.{line_of}
-use Rattle.ecr_repo.specs.States.{State, turn_at}
+use Rattle.ecr_repo.specs.States.{State, unsealed_turn}
 use Rattle.ecr_repo.proofs.StateLemmas.{IsKept-called}
 use Rattle.ecr_repo.proofs.state.RepoState.change.Goals as goal
 
 -- on Ok
 pub invariant_of-self-2 : goal.invariant_of-self-2
 invariant_of-self-2 c =
-    let turn = turn_at c.args.ticket c.args.moment c.args.destinations.items in
+    let turn = unsealed_turn c.args.ticket c.args.moment c.args.destinations.items in
     let done = c.in_ok-outcome.ensures.made c.self.inside.limits c.args.ticket c.args.destinations.items in
     let entry : c.line_of-line.result ≡ line_of c.args.caller turn c.args.call.now = grind arith in
     let later : past c.self.inside.journal.items ≤ c.args.ticket =

@@ -1,12 +1,12 @@
 use Rattle.std.proofs.Common.{◌∙◌, map, refl, sym, ap}
 use Rattle.std.proofs.lemmas.List.{map_push}
 use Rattle.ecr_session.specs.declared.session.Session.{Session}
-use Rattle.ecr_session.proofs.ServingLemmas.{Answered-by}
+use Rattle.ecr_session.proofs.ServingLemmas.{AddsExchange-by}
 use Rattle.ecr_session.proofs.session.Session.serve.Goals as goal
 
 pub returns-in-WriteFault-clause-serves : goal.returns-in-WriteFault-clause-serves
 returns-in-WriteFault-clause-serves g c = λ left faults.
-    Answered-by _ _ _ _ c.args.self.now c.send.new.self (g.D.AnyDesk.seen c.args.desk.now)
+    AddsExchange-by _ _ _ _ c.args.self.now c.send.new.self (g.D.AnyDesk.seen c.args.desk.now)
     (g.D.AnyDesk.seen c.answer_request-answer.new.desk) _
     c.moment_of-moment.result c.answer_request-answer.result.reply c.answer_request-answer.result.places.items c.answer_request-answer.result.cut
     c.moment_of-moment.ensures c.answer_request-answer.ensures
@@ -18,7 +18,7 @@ returns-in-WriteFault-clause-serves g c = λ left faults.
 
 pub returns-then-closes-clause-serves : goal.returns-then-closes-clause-serves
 returns-then-closes-clause-serves g c = λ left faults. (
-  Answered-by _ _ _ _ c.args.self.now c.send.new.self (g.D.AnyDesk.seen c.args.desk.now)
+  AddsExchange-by _ _ _ _ c.args.self.now c.send.new.self (g.D.AnyDesk.seen c.args.desk.now)
       (g.D.AnyDesk.seen c.answer_request-answer.new.desk) _
       c.moment_of-moment.result c.answer_request-answer.result.reply c.answer_request-answer.result.places.items c.answer_request-answer.result.cut
       c.moment_of-moment.ensures c.answer_request-answer.ensures
@@ -32,7 +32,7 @@ returns-then-closes-clause-serves g c = λ left faults. (
 
 pub returns-clause-serves : goal.returns-clause-serves
 returns-clause-serves g c = λ left faults. (
-  Answered-by _ _ _ _ c.args.self.now c.send.new.self (g.D.AnyDesk.seen c.args.desk.now)
+  AddsExchange-by _ _ _ _ c.args.self.now c.send.new.self (g.D.AnyDesk.seen c.args.desk.now)
       (g.D.AnyDesk.seen c.answer_request-answer.new.desk) _
       c.moment_of-moment.result c.answer_request-answer.result.reply c.answer_request-answer.result.places.items c.answer_request-answer.result.cut
       c.moment_of-moment.ensures c.answer_request-answer.ensures

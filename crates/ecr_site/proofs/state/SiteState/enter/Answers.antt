@@ -1,10 +1,10 @@
 use Rattle.std.proofs.Common.{◌≡◌, ◌<◌, ◌≤◌, ◌+◌, ◌∙◌, List, [], ◌∷◌, ◌++◌, refl, true, false, length, subst, sym, ap}
-use Rattle.ecr_model.specs.registry.Directories.{is_registered, line_of}
+use Rattle.ecr_model.specs.registry.Directories.{is_registered, registration_line}
 use Rattle.ecr_model.specs.registry.Journals.{past}
 use Rattle.ecr_model.specs.declared.registry.directory.Registered.TheVariants.{New, Known}
 use Rattle.ecr_model.specs.declared.registry.journal.Line.{Line}
-use Rattle.ecr_site.specs.States.{SiteJournal, frame_of_journal, directory_of, entered, registration_in, with_line}
-use Rattle.ecr_site.proofs.StateLemmas.{IsKept-line_of, is_at-registered, past-with_line, registration-known, registration-new, was_there, was_not_there}
+use Rattle.ecr_site.specs.States.{SiteJournal, frame_of_journal, directory_of, after_result, registration_in, with_line}
+use Rattle.ecr_site.proofs.StateLemmas.{AreNamesOf-registration_line, is_at-registered, past-with_line, registration-known, registration-new, was_there, was_not_there}
 use Rattle.ecr_site.proofs.state.SiteState.enter.Goals as goal
 
 pub returns-then-not-branch-clause-exact : goal.returns-then-not-branch-clause-exact
@@ -28,7 +28,7 @@ pub returns-then-not-branch-clause-entered : goal.returns-then-not-branch-clause
 returns-then-not-branch-clause-entered c =
     let s = c.self.inside in
     let now = c.args.self.now in
-    let line : Line = line_of c.args.ticket c.args.caller c.args.name.now in
+    let line : Line = registration_line c.args.ticket c.args.caller c.args.name.now in
     ap (λ l. record {
       site = s.site;
       served = s.served.items;
@@ -36,7 +36,7 @@ returns-then-not-branch-clause-entered c =
       journal = l;
     }) c.in_ok-reserve.ensures.items
     ∙ c.self.view_is
-    ∙ ap (λ r. entered r now line) (returns-then-not-branch-clause-exact c)
+    ∙ ap (λ r. after_result r now line) (returns-then-not-branch-clause-exact c)
 
 pub returns-clause-exact : goal.returns-clause-exact
 returns-clause-exact c =
@@ -65,7 +65,7 @@ invariant_of-self-2 c =
     let name = c.args.name.now in
     let is = sym c.self.view_is in
     rw (c.push_reserved.ensures.items, c.line_of.ensures, c.in_ok-insert.ensures.keys, c.in_ok-reserve.ensures.items, c.in_ok-told.ensures, c.in_ok-kept.ensures)
-    (IsKept-line_of (record {
+    (AreNamesOf-registration_line (record {
       site = s.site;
       served = s.served.items;
       limits = s.limits;
@@ -77,12 +77,12 @@ pub returns-clause-entered : goal.returns-clause-entered
 returns-clause-entered c =
     let s = c.self.inside in
     let now = c.args.self.now in
-    let line : Line = line_of c.args.ticket c.args.caller c.args.name.now in
+    let line : Line = registration_line c.args.ticket c.args.caller c.args.name.now in
     let items : c.push_reserved.new.self.items ≡ s.journal.items ++ line ∷ [] =
     rw (c.push_reserved.ensures.items, c.line_of.ensures, c.in_ok-reserve.ensures.items, c.in_ok-told.ensures) refl in
     ap (λ l. record { site = s.site; served = s.served.items; limits = s.limits; journal = l }) items
     ∙ ap (λ j. with_line j line) c.self.view_is
-    ∙ ap (λ r. entered r now line) (returns-clause-exact c)
+    ∙ ap (λ r. after_result r now line) (returns-clause-exact c)
 
 pub returns-clause-last : goal.returns-clause-last
 returns-clause-last c =
@@ -93,7 +93,7 @@ returns-clause-last c =
       limits = s.limits;
       journal = s.journal.items;
     } in
-    let line : Line = line_of c.args.ticket c.args.caller c.args.name.now in
+    let line : Line = registration_line c.args.ticket c.args.caller c.args.name.now in
     let items : c.push_reserved.new.self.items ≡ s.journal.items ++ line ∷ [] =
     rw (c.push_reserved.ensures.items, c.line_of.ensures, c.in_ok-reserve.ensures.items, c.in_ok-told.ensures) refl in
     subst (λ (l : List Line). past l ≤ c.args.ticket + 1) (sym items)
