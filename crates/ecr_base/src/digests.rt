@@ -19,7 +19,7 @@ const TEXT_LENGTH: usize = 71;
 /// The length is tested first. It takes no memory.
 #[tactic(auto, unfolding(ecr_model::specs::names::Digests::digest_of))]
 pub fn read_digest(text: &[u8]) -> Option<Digest>
-    ensures { result ≡ digest_of text.now }
+    ensures read { result ≡ digest_of text.now }
 {
     if text.len() == TEXT_LENGTH && &text[..7] == PREFIX {
         of_digits(&text[7..])
@@ -31,7 +31,7 @@ pub fn read_digest(text: &[u8]) -> Option<Digest>
 /// `sha256:` and the digest's 64 digits.
 #[tactic(auto, unfolding(ecr_model::specs::names::Digests::digest_text))]
 pub fn write_digest(alloc: Global, digest: &Digest) -> Result<String, Mem>
-    ensures { IfOk result (λ text. string_bytes text ≡ digest_text digest.now) }
+    ensures written { IfOk result (λ text. string_bytes text ≡ digest_text digest.now) }
 {
     let digits = hex::encode(alloc, digest.bytes.as_slice())?;
     let mut text = String::from_str(alloc, "sha256:")?;

@@ -38,7 +38,7 @@ pub fn read_name(alloc: Global, text: &[u8]) -> Result<Option<Name>, Mem>
 
 /// The test that computes decides the grammar.
 pub fn name_has_one_test()
-    ensures { (text : List ℕ) → IsTrue (is_name text) ↔ IsName text }
+    ensures agree { (text : List ℕ) → IsTrue (is_name text) ↔ IsName text }
 {}
 
 /// Whether a word begins here, and the rest of a name follows.

@@ -35,7 +35,7 @@ pub fn site_has_one_reader()
 
 /// A repository's ARN: `arn:aws:ecr:REGION:ACCOUNT:repository/NAME`, or the empty text where that isn't UTF-8.
 pub fn write_arn(alloc: Global, key: &RepoKey) -> Result<String, Mem>
-    ensures { IfOk result (λ text. string_bytes text ≡ arn_of key.now) }
+    ensures written { IfOk result (λ text. string_bytes text ≡ arn_of key.now) }
 {
     write_arn_at(alloc, &key.site, key.name.text.as_bytes())
 }
@@ -43,7 +43,7 @@ pub fn write_arn(alloc: Global, key: &RepoKey) -> Result<String, Mem>
 /// The ARN of the repository of that name at the site.
 #[tactic(auto, unfolding(ecr_model::specs::names::Sites::arn_of))]
 pub fn write_arn_at(alloc: Global, site: &SiteId, name: &[u8]) -> Result<String, Mem>
-    ensures { IfOk result
+    ensures written { IfOk result
         (λ text. string_bytes text ≡ arn_of (record { site = site.now; name = record { text = name.now } })) }
 {
     let mut arn = Vec::with_capacity(alloc, room_for(site, name))?;
@@ -58,7 +58,7 @@ pub fn write_arn_at(alloc: Global, site: &SiteId, name: &[u8]) -> Result<String,
 
 /// A repository's URI: `ACCOUNT.dkr.ecr.REGION.amazonaws.com/NAME`, or the empty text where that isn't UTF-8.
 pub fn write_uri(alloc: Global, key: &RepoKey) -> Result<String, Mem>
-    ensures { IfOk result (λ text. string_bytes text ≡ uri_of key.now) }
+    ensures written { IfOk result (λ text. string_bytes text ≡ uri_of key.now) }
 {
     write_uri_at(alloc, &key.site, key.name.text.as_bytes())
 }
@@ -66,7 +66,7 @@ pub fn write_uri(alloc: Global, key: &RepoKey) -> Result<String, Mem>
 /// The URI of the repository of that name at the site.
 #[tactic(auto, unfolding(ecr_model::specs::names::Sites::uri_of))]
 pub fn write_uri_at(alloc: Global, site: &SiteId, name: &[u8]) -> Result<String, Mem>
-    ensures { IfOk result
+    ensures written { IfOk result
         (λ text. string_bytes text ≡ uri_of (record { site = site.now; name = record { text = name.now } })) }
 {
     let mut uri = Vec::with_capacity(alloc, room_for(site, name))?;
@@ -80,7 +80,7 @@ pub fn write_uri_at(alloc: Global, site: &SiteId, name: &[u8]) -> Result<String,
 
 /// These bytes as a `str`, or the empty one where they aren't UTF-8.
 pub fn utf8_or_empty(bytes: &[u8]) -> &str
-    ensures { result.now ≡ utf8_or_empty bytes.now }
+    ensures text { result.now ≡ utf8_or_empty bytes.now }
 {
     match str::from_utf8(bytes) {
         Ok(text) => text,

@@ -10,7 +10,7 @@ ghost use Rattle.ecr_blob_upload.specs.contracts.call.Outcome.{the_row as outcom
 
 /// The digest of content has 32 bytes.
 pub fn content_has_a_digest()
-    ensures { (content : List ℕ) → IsDigest (content_digest content) }
+    ensures digest { (content : List ℕ) → IsDigest (content_digest content) }
 {}
 
 /// Blobs and bytes may be sent to other threads and shared with them.

@@ -4,5 +4,5 @@ ghost use Rattle.ecr_cells.specs.contracts.desk.SoloDesk.{the_row as desk};
 
 /// A desk may be sent to other threads.
 pub fn desks_cross_threads()
-    ensures { IsSend desk }
+    ensures send { IsSend desk }
 {}

@@ -7,7 +7,7 @@ ghost use Rattle.ecr_model.specs.http.Replies.{failed_reply};
 ///
 /// It takes no memory.
 pub fn fixed_500(close: bool, head: bool) -> &'static [u8]
-    ensures { result.now ≡ failed_reply head close }
+    ensures bytes { result.now ≡ failed_reply head close }
 {
     if head {
         failed_head(close)

@@ -29,7 +29,7 @@ pub enum ManifestRefusal {
 ///
 /// There are fewer entries than bytes, so the number of each is below 2^32.
 pub fn read(alloc: Global, bytes: &[u8], media: Option<&str>) -> Result<Facts, ManifestRefusal>
-    requires { length bytes.now < 2 ^ 32 }
+    requires short { length bytes.now < 2 ^ 32 }
     ensures taken { IfOk result (λ f. facts bytes.now (option_map (λ s. s.now) media.entry) ≡ Ok f) }
     ensures refused { IfErr result (λ e. Tells e (facts bytes.now (option_map (λ s. s.now) media.entry))) }
 {

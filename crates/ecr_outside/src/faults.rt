@@ -28,14 +28,14 @@ impl Model for Faults {
 impl Faults {
     /// None so far.
     pub fn none() -> Faults
-        ensures { result ≡ 0 }
+        ensures zero { result ≡ 0 }
     {
         Faults { before_last: None }
     }
 
     /// Counts one more.
     pub fn rise(&mut self)
-        ensures { self.new ≡ self.old + 1 }
+        ensures risen { self.new ≡ self.old + 1 }
     {
         let before = Snapshot::of(self);
         self.before_last = Some(before);

@@ -33,7 +33,7 @@ impl<R> Model for RealSource<R> {
 impl<R: Read> RealSource<R> {
     /// A source of what the reader gives from now on.
     pub fn new(reader: R) -> RealSource<R>
-        ensures { result ≡ 0 }
+        ensures no_fault { result ≡ 0 }
     {
         RealSource {
             reader,
@@ -98,7 +98,7 @@ impl<W> Model for RealSink<W> {
 impl<W: Write> RealSink<W> {
     /// A sink whose bytes go to the writer.
     pub fn new(writer: W) -> RealSink<W>
-        ensures { result ≡ 0 }
+        ensures no_fault { result ≡ 0 }
     {
         RealSink {
             writer,

@@ -29,7 +29,7 @@ pub trait Sink {
     ///
     /// Takes maybe fewer than `piece` has; the rest is the caller's to write again.
     fn write(&mut self, piece: &[u8]) -> Took
-        requires { 0 < length piece.now }
+        requires not_empty { 0 < length piece.now }
         ensures count { IsWriteSize result piece.now }
         ensures bytes { Takes (held self.old) (held self.new) piece.now result }
 
@@ -85,7 +85,7 @@ impl MemSink {
 
     /// The bytes that it holds.
     pub fn held(&self) -> &[u8]
-        ensures { result.now ≡ self.now.held }
+        ensures held { result.now ≡ self.now.held }
     {
         &self.bytes
     }

@@ -31,7 +31,7 @@ pub trait Source {
     /// Gives at most as many as `buf` has room for, and maybe fewer than are left. What stands in
     /// `buf` behind them, and all of it after `End` and `Failed`, says nothing.
     fn read(&mut self, buf: &mut [u8]) -> Got
-        requires { 0 < length buf.old }
+        requires not_empty { 0 < length buf.old }
         ensures count { IsReadSize result buf.new }
         ensures bytes { Gives (left self.old) (left self.new) buf.new result }
 

@@ -31,7 +31,7 @@ impl Model for Told {
 impl Told {
     /// None so far.
     pub fn none() -> Told
-        ensures { result ≡ [] }
+        ensures empty { result ≡ [] }
     {
         Told {
             before_last: None,
@@ -41,7 +41,7 @@ impl Told {
 
     /// Adds one more.
     pub fn add(&mut self, moment: Moment)
-        ensures { self.new ≡ self.old ++ moment ∷ [] }
+        ensures added { self.new ≡ self.old ++ moment ∷ [] }
     {
         let before = Snapshot::of(self);
         self.before_last = Some(before);

@@ -5,15 +5,15 @@ ghost use Rattle.ecr_repo.specs.contracts.state.RepoState.{the_row as state};
 
 /// The state of a name may be sent to other threads.
 pub fn states_cross_threads()
-    ensures { IsSend state }
+    ensures send { IsSend state }
 {}
 
 /// A call that asks changes nothing, in whatever turn it is answered.
 pub fn an_answer_changes_nothing()
-    ensures { AnAnswerChangesNothing }
+    ensures unchanged { AnAnswerChangesNothing }
 {}
 
 /// Where a turn's ticket was above all in the journal, so is the next one afterwards.
 pub fn the_next_turn_is_later()
-    ensures { TheNextTurnIsLater }
+    ensures later { TheNextTurnIsLater }
 {}

@@ -36,7 +36,7 @@ impl Model for RepoState {
 impl RepoState {
     /// The state of a name that was never used: the repository is absent, and the journal is empty.
     pub fn new(alloc: Global, key: RepoKey, limits: Limits) -> RepoState
-        ensures { result ≡ record { key = key; limits = limits; journal = [] } }
+        ensures empty { result ≡ record { key = key; limits = limits; journal = [] } }
     {
         RepoState {
             key,
@@ -48,14 +48,14 @@ impl RepoState {
 
     /// The journal's lines, the first one first.
     pub fn journal(&self) -> &[Line]
-        ensures { result.now ≡ self.now.journal }
+        ensures lines { result.now ≡ self.now.journal }
     {
         self.journal.as_slice()
     }
 
     /// The number of the journal's entries.
     pub fn entries(&self) -> u64
-        ensures { result ≡ length self.now.journal }
+        ensures count { result ≡ length self.now.journal }
     {
         self.journal.len() as u64
     }
@@ -108,7 +108,7 @@ impl RepoState {
 
 /// The journal of every state is sound.
 pub fn a_journal_is_sound(state: &RepoState)
-    ensures { IsSoundRepository state.now.key state.now.limits state.now.journal }
+    ensures sound { IsSoundRepository state.now.key state.now.limits state.now.journal }
 {
     let _ = &state.journal;
 }

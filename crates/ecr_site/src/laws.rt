@@ -4,5 +4,5 @@ ghost use Rattle.ecr_site.specs.contracts.state.SiteState.{the_row as state};
 
 /// A directory may be sent to other threads.
 pub fn states_cross_threads()
-    ensures { IsSend state }
+    ensures send { IsSend state }
 {}

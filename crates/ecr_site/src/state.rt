@@ -35,7 +35,7 @@ impl Model for SiteState {
 impl SiteState {
     /// The directory of a site with no name, of a registry that serves these sites. It takes no memory.
     pub fn new(alloc: Global, site: SiteId, served: Vec<SiteId>, limits: Limits) -> SiteState
-        ensures { result ≡ record { site = site; served = served.items; limits = limits; journal = [] } }
+        ensures empty { result ≡ record { site = site; served = served.items; limits = limits; journal = [] } }
     {
         SiteState {
             site,
@@ -48,21 +48,21 @@ impl SiteState {
 
     /// How many lines its journal has.
     pub fn entries(&self) -> u64
-        ensures { result ≡ length self.now.journal }
+        ensures count { result ≡ length self.now.journal }
     {
         self.journal.len() as u64
     }
 
     /// How many names are registered.
     pub fn count(&self) -> u64
-        ensures { result ≡ length (directory_of self.now).names }
+        ensures names { result ≡ length (directory_of self.now).names }
     {
         self.names.len() as u64
     }
 
     /// Whether the name is registered. It takes about as many comparisons as the logarithm of their number.
     pub fn knows(&self, name: &Name) -> bool
-        ensures { result ≡ is_registered name.now (directory_of self.now) }
+        ensures known { result ≡ is_registered name.now (directory_of self.now) }
     {
         self.names.contains(name)
     }
@@ -70,7 +70,8 @@ impl SiteState {
     /// At most `max` of the names in the order of their bytes, from the one at the place `from` on, counted from 0. There
     /// are more where `from + max` is below [`SiteState::count`]. The names before them are stepped over one by one.
     pub fn names(&self, alloc: Global, from: u64, max: u32) -> Result<Vec<Name>, Mem>
-        ensures { IfOk result (λ v. v.items ≡ names_of (record { from = from; max = max }) (directory_of self.now)) }
+        ensures page { IfOk result
+            (λ v. v.items ≡ names_of (record { from = from; max = max }) (directory_of self.now)) }
     {
         part_of(alloc, &self.names, from as usize, max as usize)
     }
@@ -176,7 +177,7 @@ fn part_of(alloc: Global, names: &BTreeSet<Name>, from: usize, max: usize) -> Re
 
 /// The journal of a directory is sound.
 pub fn a_journal_is_sound(state: &SiteState)
-    ensures { IsSoundDirectory (frame_of_journal state.now) state.now.journal }
+    ensures sound { IsSoundDirectory (frame_of_journal state.now) state.now.journal }
 {
     let _ = &state.journal;
 }

@@ -9,7 +9,7 @@ use std::sync::ledger::Ledger;
 
 /// Whether the prefix begins the tag.
 pub fn starts(prefix: &[u8], tag: &[u8]) -> bool
-    ensures { result ≡ starts prefix.now tag.now }
+    ensures exact { result ≡ starts prefix.now tag.now }
 {
     tag.starts_with(prefix)
 }

@@ -8,7 +8,7 @@ ghost use Rattle.ecr_tagmatch.specs.Agreed.{agreed, is_star, is_whole};
 /// It takes no memory, and at most the time of the pattern's length times the tag's.
 #[tactic(auto, using(crate::proofs::WildLemmas::first_place))]
 pub fn wild(pattern: &[u8], tag: &[u8]) -> bool
-    ensures { result ≡ wild pattern.now tag.now }
+    ensures exact { result ≡ wild pattern.now tag.now }
 {
     let matched = agreed(pattern, tag);
     if is_star(pattern, matched) {

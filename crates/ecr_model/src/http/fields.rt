@@ -33,7 +33,7 @@ impl Fields {
 
     /// The fields at these places of a head. Nothing is copied.
     pub fn new(head: Vec<u8>, places: Vec<HeaderSpan>) -> Fields
-        ensures { result ≡ map (field_at head.items) places.items }
+        ensures fields { result ≡ map (field_at head.items) places.items }
     {
         Fields { head, places }
     }
@@ -41,7 +41,7 @@ impl Fields {
     /// How many fields have the name, letter case aside (RFC 9110, section 5.1).
     #[tactic(auto, using(crate::proofs::lemmas::http::FieldLemmas::at_places))]
     pub fn count_of(&self, name: &[u8]) -> usize
-        ensures { result ≡ count_of name.now self.now }
+        ensures count { result ≡ count_of name.now self.now }
     {
         let head = self.head.as_slice();
         self.places
@@ -52,7 +52,7 @@ impl Fields {
 
     /// The value of the first field of the name, letter case aside.
     pub fn first_value(&self, name: &[u8]) -> Option<&[u8]>
-        ensures { option_map (λ v. v.now) result ≡ first_value name.now self.now }
+        ensures first { option_map (λ v. v.now) result ≡ first_value name.now self.now }
     {
         value_in(self.head.as_slice(), self.places.as_slice(), name)
     }
@@ -60,7 +60,7 @@ impl Fields {
     /// Whether each field of the name has the value.
     #[tactic(auto, using(crate::proofs::lemmas::http::FieldLemmas::at_places))]
     pub fn each_is(&self, name: &[u8], value: &[u8]) -> bool
-        ensures { result ≡ each_is name.now value.now self.now }
+        ensures each { result ≡ each_is name.now value.now self.now }
     {
         each_place_is(self.head.as_slice(), self.places.as_slice(), name, value)
     }

@@ -3,10 +3,10 @@ ghost use Rattle.ecr_model.specs.examples.ApiExample.{BodiesAreRead, RepliesAreW
 
 /// The bodies that are written out in `specs/examples/ApiExample.antt` are read as it says there.
 pub fn bodies_are_read()
-    ensures { BodiesAreRead }
+    ensures read { BodiesAreRead }
 {}
 
 /// The replies that are written out there have those bytes.
 pub fn replies_are_written()
-    ensures { RepliesAreWritten }
+    ensures written { RepliesAreWritten }
 {}

@@ -4,7 +4,7 @@ ghost use Rattle.ecr_model.specs.laws.JournalLaws.{ARefusalChangesNothing, Betwe
 
 /// A call on a repository that is refused changes nothing.
 pub fn a_refusal_changes_nothing()
-    ensures { ARefusalChangesNothing }
+    ensures unchanged { ARefusalChangesNothing }
 {}
 
 /// A journal and one line more lead to what the line makes of the state to which the journal leads.
@@ -47,15 +47,15 @@ pub fn the_lines_between_lead_on()
 /// The definitions, at one repository that is created, set, deleted and created again, come to the replies that are
 /// written out in `specs/examples/JournalExample.antt`.
 pub fn a_repository_comes_and_goes()
-    ensures { ARepositoryComesAndGoes }
+    ensures states { ARepositoryComesAndGoes }
 {}
 
 /// The lines of that repository between two tickets are those that are written out there, and lead on as it says.
 pub fn lines_stand_between()
-    ensures { LinesStandBetween }
+    ensures between { LinesStandBetween }
 {}
 
 /// The definitions, at a directory with a limit of two names, come to what is written out there too.
 pub fn names_are_in_order()
-    ensures { NamesAreInOrder }
+    ensures in_order { NamesAreInOrder }
 {}

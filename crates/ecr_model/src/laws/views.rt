@@ -6,7 +6,7 @@ ghost use Rattle.ecr_model.specs.laws.ViewLaws.{AnswersStay, HaltsFirst, HaltsGo
 
 /// A turn at a ticket that the caller has passed comes to the same over each journal that it sees later.
 pub fn what_was_seen_stays()
-    ensures { WhatWasSeenStays }
+    ensures stays { WhatWasSeenStays }
 {}
 
 /// Each view goes on from the one before: its journal only grows, by lines that weren't passed.
@@ -17,12 +17,12 @@ pub fn views_go_on()
 
 /// A request whose turns were made has its answer at their places, over all journals that the caller sees later.
 pub fn answers_stay()
-    ensures { AnswersStay Decided }
+    ensures stay { AnswersStay Decided }
 {}
 
 /// The caller's own lines in a journal are those that its requests' turns entered, each once and in order.
 pub fn own_lines_are_entered()
-    ensures { OwnLinesAreEntered Decided }
+    ensures entered { OwnLinesAreEntered Decided }
 {}
 
 /// The turns of one script and then another are the turns of both, whole or halted in the one or the other.
@@ -44,5 +44,5 @@ pub fn alone_turns_are_runs()
 
 /// The definitions, at one call of one caller among others, come to what is written out in `specs/examples/ViewExample.antt`.
 pub fn a_call_is_visited()
-    ensures { ACallIsVisited }
+    ensures visited { ACallIsVisited }
 {}

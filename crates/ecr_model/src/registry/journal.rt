@@ -88,7 +88,7 @@ impl Limits {
     /// The limits of the program: 100,000 names at a site and images in a repository, 1,000 tags of an image, and
     /// uploads of 4,200 parts and 1,073,741,824 bytes.
     pub fn standard() -> Limits
-        ensures { result ≡ standard }
+        ensures limits { result ≡ standard }
     {
         Limits {
             names: 100_000,

@@ -20,7 +20,7 @@ impl<T> Model for Listed<T> {
 impl<T> Listed<T> {
     /// The empty list, which takes no memory.
     pub fn new(alloc: Global) -> Listed<T>
-        ensures { result ≡ [] }
+        ensures empty { result ≡ [] }
     {
         Listed {
             list: Vec::new(alloc),
@@ -29,21 +29,21 @@ impl<T> Listed<T> {
 
     /// The list of these items, which aren't copied.
     pub fn from_vec(list: Vec<T>) -> Listed<T>
-        ensures { result ≡ list.items }
+        ensures items { result ≡ list.items }
     {
         Listed { list }
     }
 
     /// The items as a vector, which aren't copied.
     pub fn into_vec(self) -> Vec<T>
-        ensures { result.items ≡ self }
+        ensures items { result.items ≡ self }
     {
         self.list
     }
 
     /// The items.
     pub fn as_slice(&self) -> &[T]
-        ensures { result.now ≡ self.now }
+        ensures items { result.now ≡ self.now }
     {
         self.list.as_slice()
     }

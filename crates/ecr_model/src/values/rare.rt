@@ -20,14 +20,14 @@ impl<T> Model for Rare<T> {
 impl<T> Rare<T> {
     /// No value, which takes no memory.
     pub fn none() -> Rare<T>
-        ensures { result ≡ None }
+        ensures empty { result ≡ None }
     {
         Rare { value: None }
     }
 
     /// The value, where it is there.
     pub fn get(&self) -> Option<&T>
-        ensures { option_map (λ v. v.now) result ≡ self.now }
+        ensures content { option_map (λ v. v.now) result ≡ self.now }
     {
         match &self.value {
             Some(value) => Some(&**value),
@@ -39,7 +39,7 @@ impl<T> Rare<T> {
 impl<T: Drop> Rare<T> {
     /// That value.
     pub fn some(alloc: Global, value: T) -> Result<Rare<T>, Mem>
-        ensures { IfOk result (λ r. r ≡ Some value) }
+        ensures kept { IfOk result (λ r. r ≡ Some value) }
     {
         match Box::new(alloc, value) {
             Ok(value) => Ok(Rare { value: Some(value) }),

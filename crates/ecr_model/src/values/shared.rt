@@ -33,7 +33,7 @@ impl Model for SharedText {
 impl SharedText {
     /// A copy of these bytes.
     pub fn copy_of(alloc: Global, bytes: &[u8]) -> Result<SharedText, Mem>
-        ensures { IfOk result (λ t. t ≡ bytes.now) }
+        ensures copied { IfOk result (λ t. t ≡ bytes.now) }
     {
         let bytes = Vec::from_slice(alloc, bytes)?;
         let bytes = Arc::new(alloc, bytes)?;
@@ -42,7 +42,7 @@ impl SharedText {
 
     /// The bytes.
     pub fn as_bytes(&self) -> &[u8]
-        ensures { result.now ≡ self.now }
+        ensures text { result.now ≡ self.now }
     {
         self.bytes.as_slice()
     }

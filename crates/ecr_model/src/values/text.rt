@@ -21,14 +21,14 @@ impl Model for Text {
 impl Text {
     /// The text of these bytes, which aren't copied.
     pub fn from_vec(bytes: Vec<u8>) -> Text
-        ensures { result ≡ bytes.items }
+        ensures text { result ≡ bytes.items }
     {
         Text { bytes }
     }
 
     /// A copy of these bytes.
     pub fn copy_of(alloc: Global, bytes: &[u8]) -> Result<Text, Mem>
-        ensures { IfOk result (λ t. t ≡ bytes.now) }
+        ensures copied { IfOk result (λ t. t ≡ bytes.now) }
     {
         let bytes = Vec::from_slice(alloc, bytes)?;
         Ok(Text { bytes })
@@ -36,7 +36,7 @@ impl Text {
 
     /// The bytes.
     pub fn as_bytes(&self) -> &[u8]
-        ensures { result.now ≡ self.now }
+        ensures text { result.now ≡ self.now }
     {
         self.bytes.as_slice()
     }

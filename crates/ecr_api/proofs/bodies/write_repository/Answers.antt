@@ -29,13 +29,13 @@ returns-clause-ok c =
     text_member t1 t2 _ _ _ c.in_ok-write_text.ensures.ok c.mutability_text.ensures in
     let e3 : t3 ≡ t2 ++ token.key (codes "registryId") ∷ token.string (utf8_or_empty site.account) ∷ [] =
     text_member t2 t3 _ _ _ c.in_ok-write_text-2.ensures.ok
-    (c.utf8_or_empty.ensures ∙ ap utf8_or_empty c.as_bytes.ensures) in
+    (c.utf8_or_empty.ensures.text ∙ ap utf8_or_empty c.as_bytes.ensures.text) in
     let e4 : t4 ≡ t3 ++ token.key (codes "repositoryArn") ∷ token.string (arn_of key) ∷ [] =
-    text_member t3 t4 _ _ _ c.in_ok-write_text-3.ensures.ok (c.as_str.ensures.value ∙ c.in_ok-arn.ensures) in
+    text_member t3 t4 _ _ _ c.in_ok-write_text-3.ensures.ok (c.as_str.ensures.value ∙ c.in_ok-arn.ensures.written) in
     let e5 : t5 ≡ t4 ++ token.key (codes "repositoryName") ∷ token.string (utf8_or_empty name) ∷ [] =
-    text_member t4 t5 _ _ _ c.in_ok-write_text-4.ensures.ok c.utf8_or_empty-2.ensures in
+    text_member t4 t5 _ _ _ c.in_ok-write_text-4.ensures.ok c.utf8_or_empty-2.ensures.text in
     let e6 : t6 ≡ t5 ++ token.key (codes "repositoryUri") ∷ token.string (uri_of key) ∷ [] =
-    text_member t5 t6 _ _ _ c.in_ok-write_text-5.ensures.ok (c.as_str-2.ensures.value ∙ c.in_ok-uri.ensures) in
+    text_member t5 t6 _ _ _ c.in_ok-write_text-5.ensures.ok (c.as_str-2.ensures.value ∙ c.in_ok-uri.ensures.written) in
     let j1 = joined old t0 t1 _ _ e0 e1 in
     let j2 = joined old t1 t2 _ _ j1 e2 in
     let j3 = joined old t2 t3 _ _ j2 e3 in

@@ -2,4 +2,4 @@ use Rattle.ecr_model.proofs.lemmas.names.NamesLemmas.{is_name-IsName}
 use Rattle.ecr_base.proofs.names.name_has_one_test.Goals as goal
 
 pub returns : goal.returns
-returns c = is_name-IsName
+returns c = record { agree = is_name-IsName }

@@ -22,10 +22,10 @@ loop-site-preserved c =
     let i = c.loop-site.site-index in
     let site = c.site-item.result in
     let less : i < length served =
-    subst (λ (xs : List SiteId). i < length xs) c.as_slice-site-items.ensures c.loop-site-test.true in
+    subst (λ (xs : List SiteId). i < length xs) c.as_slice-site-items.ensures.items c.loop-site-test.true in
     let more : take (i + 1) served ≡ take i served ++ get_or served i site ∷ [] = take_more served i site less in
     let is : site ≡ get_or served i site =
-    c.site-item.is ∙ ap (λ xs. get_or xs i site) c.as_slice-site-items.ensures in
+    c.site-item.is ∙ ap (λ xs. get_or xs i site) c.as_slice-site-items.ensures.items in
     record {
       empty = AreEmpty-adds served c.args.limits sites news site c.loop-site.invariant.empty c.in_ok-add.ensures;
       all = All-same (λ s. IsSome (site_at news s)) (take (i + 1) served)
@@ -42,7 +42,7 @@ pub returns-clause-kept : goal.returns-clause-kept
 returns-clause-kept c =
     let served = c.args.served.now in
     let whole : take c.loop-site.site-index served ≡ served =
-    take_all c.loop-site.site-index served (subst (λ (xs : List SiteId). length xs ≤ c.loop-site.site-index) c.as_slice-site-items.ensures c.loop-site-test.false) in
+    take_all c.loop-site.site-index served (subst (λ (xs : List SiteId). length xs ≤ c.loop-site.site-index) c.as_slice-site-items.ensures.items c.loop-site-test.false) in
     AreKept-empty served c.args.limits c.loop-site.cells.entries c.loop-site.invariant.empty
     (All-same (λ s. IsSome (site_at c.loop-site.cells.entries s)) served (take c.loop-site.site-index served)
     (sym whole) c.loop-site.invariant.all)

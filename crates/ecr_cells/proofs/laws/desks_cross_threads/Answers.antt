@@ -2,4 +2,4 @@ use Rattle.ecr_cells.proofs.CrossingLemmas.{SoloDesk-send}
 use Rattle.ecr_cells.proofs.laws.desks_cross_threads.Goals as goal
 
 pub returns : goal.returns
-returns c = SoloDesk-send
+returns c = record { send = SoloDesk-send }

@@ -21,7 +21,7 @@ returns-in-OnRepository-clause-turned c =
     subst (λ (d : Deed). IsRepositoryTurn s after n c.args.caller (ask_of d) (done.Replied out))
     (sym c.in-OnRepository.is)
     (IsRepositoryTurn-call s after n c.args.caller moment
-    (given c.in-OnRepository.load) call out c.a_journal_is_sound.ensures c.requires.later
+    (given c.in-OnRepository.load) call out c.a_journal_is_sound.ensures.sound c.requires.later
     (subst (λ (ds : List SiteId). out.reply ≡ reply_to s
     (unsealed_turn n moment ds) call) nowhere c.in_ok-outcome-in-OnRepository.ensures.reply)
     (subst (λ (ds : List SiteId). out.changed ≡ changes_repository s

@@ -2,4 +2,4 @@ use Rattle.ecr_model.proofs.lemmas.examples.ChunkExampleLemmas.{a_chunked_body_i
 use Rattle.ecr_model.proofs.laws.a_chunked_body_is_read.Goals as goal
 
 pub returns : goal.returns
-returns c = a_chunked_body_is_read
+returns c = record { read = a_chunked_body_is_read }

@@ -2,4 +2,4 @@ use Rattle.ecr_model.proofs.lemmas.examples.ExampleLemmas.{a_first_creation_is_a
 use Rattle.ecr_model.proofs.laws.a_first_creation_is_answered.Goals as goal
 
 pub returns : goal.returns
-returns c = a_first_creation_is_answered
+returns c = record { answered = a_first_creation_is_answered }

@@ -2,4 +2,4 @@ use Rattle.ecr_model.proofs.lemmas.examples.ExampleLemmas.{a_first_request_is_re
 use Rattle.ecr_model.proofs.laws.a_first_request_is_read.Goals as goal
 
 pub returns : goal.returns
-returns c = a_first_request_is_read
+returns c = record { read = a_first_request_is_read }

@@ -2,4 +2,4 @@ use Rattle.ecr_model.proofs.lemmas.examples.ExampleLemmas.{a_first_session_is_wr
 use Rattle.ecr_model.proofs.laws.a_first_session_is_written.Goals as goal
 
 pub returns : goal.returns
-returns c = a_first_session_is_written
+returns c = record { written = a_first_session_is_written }

@@ -2,4 +2,4 @@ use Rattle.ecr_model.proofs.lemmas.http.StreamLemmas.{Reads-unique}
 use Rattle.ecr_model.proofs.laws.requests_are_determined.Goals as goal
 
 pub returns : goal.returns
-returns c = Reads-unique
+returns c = record { determined = Reads-unique }

@@ -2,4 +2,4 @@ use Rattle.ecr_model.proofs.lemmas.registry.SoundnessLemmas.{sessions_keep_journ
 use Rattle.ecr_model.proofs.laws.sessions_keep_journals_sound.Goals as goal
 
 pub returns : goal.returns
-returns c = sessions_keep_journals_sound
+returns c = record { sound = sessions_keep_journals_sound }

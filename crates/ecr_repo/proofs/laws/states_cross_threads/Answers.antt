@@ -4,4 +4,4 @@ use Rattle.ecr_model.proofs.lemmas.registry.CrossingLemmas.{Line-send}
 use Rattle.ecr_repo.proofs.laws.states_cross_threads.Goals as goal
 
 pub returns : goal.returns
-returns c = search (Line-send, sendable, crosses) depth 60 fits 20000
+returns c = record { send = search (Line-send, sendable, crosses) depth 60 fits 20000 }

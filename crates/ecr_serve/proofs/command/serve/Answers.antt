@@ -13,5 +13,5 @@ returns-in-Ok-clause-runs g c =
     RunsSession-told _ _ _ _ _ told.cuts.items _ told.end c.with_status-in-Ok.ensures.cuts c.with_status-in-Ok.ensures.end
     (RunsSession-over c.args.command.sites c.args.command.fixed (still_state_of c.in-Ok.desk) _ _ told.moments.items
     (map (λ v. v.items) told.places.items) told.cuts.items _ told.end
-    (fresh-seen (still_state_of c.in-Ok.desk) c.args.command.sites c.into_vec.result.items c.standard.result c.in-Ok.ensures.fresh c.into_vec.ensures c.standard.ensures)
+    (fresh-seen (still_state_of c.in-Ok.desk) c.args.command.sites c.into_vec.result.items c.standard.result c.in-Ok.ensures.fresh c.into_vec.ensures.items c.standard.ensures.limits)
     c.session_still-ended.ensures.serves)

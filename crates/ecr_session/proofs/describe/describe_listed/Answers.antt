@@ -12,4 +12,4 @@ loop-name-preserved g c = record {
 }
 
 pub returns-clause-ran : goal.returns-clause-ran
-returns-clause-ran g c = RanWith-listed_rows _ _ _ _ _ _ _ _ _ c.loop-name.name-index _ _ c.from_vec.ensures c.loop-name-test.false c.loop-name.invariant.to
+returns-clause-ran g c = RanWith-listed_rows _ _ _ _ _ _ _ _ _ c.loop-name.name-index _ _ c.from_vec.ensures.items c.loop-name-test.false c.loop-name.invariant.to

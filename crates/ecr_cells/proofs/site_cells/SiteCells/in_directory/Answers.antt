@@ -10,7 +10,7 @@ invariant_of-self-2 c =
     let s = c.self.inside in
     AreOfSite-turned s.limits s.directory c.make.new.state s.repositories.entries c.entries-ticket.result
     (ask_of c.args.deed) c.in_ok-done.done
-    c.self.invariant (c.self.invariant.numbered ∙ sym c.entries-ticket.ensures) c.in_ok-done.ensures.turned
+    c.self.invariant (c.self.invariant.numbered ∙ sym c.entries-ticket.ensures.count) c.in_ok-done.ensures.turned
 
 pub returns-clause-turned : goal.returns-clause-turned
 returns-clause-turned c =
@@ -21,6 +21,6 @@ returns-clause-turned c =
     (told_of c.in_ok-done.done) c.placed-place.result) c.self.view_is
     (IsTurn-directory before after c.args.site c.entries-ticket.result
     (ask_of c.args.deed) c.in_ok-done.done c.placed-place.result
-    (c.self.invariant.numbered ∙ sym c.entries-ticket.ensures)
+    (c.self.invariant.numbered ∙ sym c.entries-ticket.ensures.count)
     (ap (λ (h : Site). h.directory.site) c.self.view_is ∙ c.requires.at)
     c.in_ok-done.ensures.turned c.placed-place.ensures refl)

@@ -19,7 +19,7 @@ returns-in_default-clause-next g c = λ before old read none.
 pub returns-then-not-fits_limit-clause-next : goal.returns-then-not-fits_limit-clause-next
 returns-then-not-fits_limit-clause-next g c = λ before old read none.
     let limit = c.max_body-limit.result in
-    let is : limit ≡ max_body c.args.head.target = c.max_body-limit.ensures.value ∙ ap max_body c.as_bytes.ensures in
+    let is : limit ≡ max_body c.args.head.target = c.max_body-limit.ensures.value ∙ ap max_body c.as_bytes.ensures.text in
     TakesRequest-fault before (g.K.Sink.held c.args.sink.now) old
     (g.S.Source.left c.args.source.now) c.args.self.now (faults.TooLong sections.Body limit) read none
     (subst (λ (n : ℕ). IsFront c.args.self.now.at c.args.self.now.buffer (short false (too_long sections.Body n))) (sym is)

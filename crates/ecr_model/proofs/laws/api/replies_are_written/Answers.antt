@@ -2,4 +2,4 @@ use Rattle.ecr_model.proofs.lemmas.examples.ApiExampleLemmas.{replies_are_writte
 use Rattle.ecr_model.proofs.laws.api.replies_are_written.Goals as goal
 
 pub returns : goal.returns
-returns c = replies_are_written
+returns c = record { written = replies_are_written }

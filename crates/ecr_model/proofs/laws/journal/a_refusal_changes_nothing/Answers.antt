@@ -2,4 +2,4 @@ use Rattle.ecr_model.proofs.lemmas.registry.StepLemmas.{a_refusal_changes_nothin
 use Rattle.ecr_model.proofs.laws.journal.a_refusal_changes_nothing.Goals as goal
 
 pub returns : goal.returns
-returns c = a_refusal_changes_nothing
+returns c = record { unchanged = a_refusal_changes_nothing }

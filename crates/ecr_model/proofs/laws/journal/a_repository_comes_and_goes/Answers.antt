@@ -2,4 +2,4 @@ use Rattle.ecr_model.proofs.lemmas.examples.JournalExampleLemmas.{a_repository_c
 use Rattle.ecr_model.proofs.laws.journal.a_repository_comes_and_goes.Goals as goal
 
 pub returns : goal.returns
-returns c = a_repository_comes_and_goes
+returns c = record { states = a_repository_comes_and_goes }

@@ -2,4 +2,4 @@ use Rattle.ecr_model.proofs.lemmas.examples.JournalExampleLemmas.{lines_stand_be
 use Rattle.ecr_model.proofs.laws.journal.lines_stand_between.Goals as goal
 
 pub returns : goal.returns
-returns c = lines_stand_between
+returns c = record { between = lines_stand_between }

@@ -2,4 +2,4 @@ use Rattle.ecr_model.proofs.lemmas.examples.JournalExampleLemmas.{names_are_in_o
 use Rattle.ecr_model.proofs.laws.journal.names_are_in_order.Goals as goal
 
 pub returns : goal.returns
-returns c = names_are_in_order
+returns c = record { in_order = names_are_in_order }

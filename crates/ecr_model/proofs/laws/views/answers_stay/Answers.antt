@@ -2,4 +2,4 @@ use Rattle.ecr_model.proofs.lemmas.registry.ViewLemmas.{answers_stay}
 use Rattle.ecr_model.proofs.laws.views.answers_stay.Goals as goal
 
 pub returns : goal.returns
-returns c = answers_stay
+returns c = record { stay = answers_stay }

@@ -4,4 +4,4 @@ use Rattle.ecr_model.proofs.registry.journal.Limits.standard.Goals as goal
 
 pub returns : goal.returns
 unfolding standard
-returns c = refl
+returns c = record { limits = refl }
