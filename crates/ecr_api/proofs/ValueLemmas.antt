@@ -106,6 +106,7 @@ object_apart : (b : Bool) (o : Option (List Valued)) (values : List Valued)
 object_apart true o values each e = each values e
 object_apart false o values each e = absurd (let no : None ≡ Some values = e in cc)
 
+-- the values of members with different names have different names
 pub typed_members-apart : (ms : List Member) (body : Data) (values : List Valued) → AreMembers ms
     → typed_members ms body ≡ Some values → AreApart values
 unfolding typed_members
@@ -131,6 +132,7 @@ texts_of-items_view (v ∷ vs) e =
     let each = both_are (is_some (as_str (view v))) (are_texts (items_view vs)) e in
     text_first (as_str (view v)) (texts_of (items_view vs)) (map item_text vs) each.0 (texts_of-items_view vs each.1)
 
+-- where each item is a text, the texts are those of the items
 pub all_texts-items_view : (vs : List Value) → are_texts (items_view vs) ≡ true
     → all_texts (items_view vs) ≡ Some (map item_text vs)
 all_texts-items_view vs e =

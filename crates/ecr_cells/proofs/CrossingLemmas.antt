@@ -14,5 +14,6 @@ RepoState-send = search (Line-send, sendable, crosses) depth 60 fits 20000
 SiteCells-send : IsSend SiteCells.the_row
 SiteCells-send = search (SiteState-send, RepoState-send, Name-send, maps.crosses, sendable, crosses) depth 60 fits 20000
 
+-- a desk of one caller may cross threads
 pub SoloDesk-send : IsSend SoloDesk.the_row
 SoloDesk-send = search (SiteCells-send, SiteId-send, maps.crosses, sendable, crosses) depth 60 fits 20000

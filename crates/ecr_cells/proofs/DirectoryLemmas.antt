@@ -27,6 +27,7 @@ turn_in_directory-now d ticket ask sound later =
     ap (λ s. directory_turn (frame_of_journal d) s ask)
     (the_last_is_now (directory_after_line (frame_of_journal d)) first_directory d.journal ticket sound later)
 
+-- a look for a name is the directory's turn, and changes nothing
 pub IsDirectoryTurn-knows : (d : SiteJournal) (ticket caller : ℕ) (name : Name) (is : Bool)
     → directories.IsSoundDirectory (frame_of_journal d) d.journal → past d.journal ≤ ticket
     → is ≡ is_registered name (directory_of d)
@@ -37,6 +38,7 @@ IsDirectoryTurn-knows d ticket caller name is sound later same = record {
   left = refl;
 }
 
+-- a registration is the directory's turn
 pub IsDirectoryTurn-register : (d after : SiteJournal) (ticket caller : ℕ) (name : Name) (r : Registered)
     → directories.IsSoundDirectory (frame_of_journal d) d.journal → past d.journal ≤ ticket
     → r ≡ registration_in d name → after ≡ after_register d ticket caller name
@@ -68,6 +70,7 @@ IsDirectoryTurn-register d after ticket caller name r sound later same left =
       entered d ticket caller name Known = refl
       entered d ticket caller name (Full limit count) = refl
 
+-- a call on the site that enters nothing is the directory's turn
 pub IsDirectoryTurn-site_call : (d : SiteJournal) (ticket caller : ℕ) (c : SiteCall) (reply : SiteReply)
     → directories.IsSoundDirectory (frame_of_journal d) d.journal → past d.journal ≤ ticket
     → reply ≡ (outcome_in d c).reply → (outcome_in d c).act ≡ None

@@ -24,6 +24,7 @@ is_some-option_map : {A B : Type 0} (f : A → B) (o : Option A) → is_some (op
 is_some-option_map f None = refl
 is_some-option_map f (Some a) = refl
 
+-- a call with the reply and the change that its state has is the repository's turn
 pub IsRepositoryTurn-call : (s after : State) (ticket caller moment : ℕ) (given : Option (List ℕ)) (c : Call)
     (out : Outcome)
     → IsSoundRepository s.key s.limits s.journal → past s.journal ≤ ticket

@@ -53,6 +53,7 @@ Ran-turn before after cell ask told place answer made =
     Ran-then before after after (turn cell ask (λ t. ends t)) (λ t. ends (answer t)) told (answer told)
     (place ∷ []) [] made (Ran-ends after (answer told))
 
+-- a turn in the site's directory is the first turn of a call
 pub Ran-first_turn : (before after : DeskState) (key : RepoKey) (c : Call) (site : SiteId) (ask : Ask) (told : Told)
     (place : Place)
     → site ≡ key.site → ask ≡ first_ask key.name c
@@ -64,6 +65,7 @@ Ran-first_turn before after key c site ask told place at asks took =
     (subst (λ (a : Ask). MadeTurn before after (Directory key.site) a told place) asks
     (subst (λ (s : SiteId). MadeTurn before after (Directory s) ask told place) at took))
 
+-- a turn in the repository is a call's turn there
 pub Ran-cell_turn : (before after : DeskState) (key copy : RepoKey) (c : Call) (given : Option (List ℕ)) (moment : ℕ)
     (told : Told) (place : Place)
     → copy ≡ key → MadeTurn before after (Repository copy) (call (beside_of given moment) c) told place
@@ -73,6 +75,7 @@ Ran-cell_turn before after key copy c given moment told place at took =
     (subst (λ (k : RepoKey). MadeTurn before after (Repository k)
     (call (beside_of given moment) c) told place) at took)
 
+-- a turn in the site's directory is all of a site's call
 pub Ran-site_script : (before after : DeskState) (site copy : SiteId) (c : SiteCall) (told : Told) (place : Place)
     → copy ≡ site → MadeTurn before after (Directory copy) (site_call c) told place
     → Ran before after (site_script site c) (site_told told) (place ∷ [])
@@ -97,6 +100,7 @@ then_cell-goes_on key c given moment (done.Listed reply) is = cc
 then_cell-goes_on key c given moment (done.Replied out) is = cc
 then_cell-goes_on key c given moment done.Nothing is = cc
 
+-- a call that its first turn refuses has no other turn
 pub then_cell-ends : (key : RepoKey) (c : Call) (given : Option (List ℕ)) (moment : ℕ) (told : Done)
     (refusal : Refusal) → refusal_of told ≡ Some refusal
     → ends (plain (Refused refusal)) ≡ then_cell key c given moment (told_of told)

@@ -57,6 +57,7 @@ name-self a = is_eq-name_order a a ∙ bytes_eq-self a.text
 
 -- ---- repositories
 
+-- the states of a site stay its own where a name gets a state of its own
 pub AreOfSite-put : (limits : Limits) (d : SiteJournal) (repositories news : List (Name × State)) (name : Name)
     (state : State)
     → AreOfSite limits d repositories → IsOfName d name state → Puts repositories news name state
@@ -120,6 +121,7 @@ AreOfSite-turned limits d after repositories ticket ask x are is turn =
     subst (λ (j : SiteJournal). AreOfSite limits j repositories) (sym next.left)
     (AreOfSite-entered limits d repositories (turn_in_directory d (past d.journal) ask).entry are)
 
+-- a turn of the directory is one of the site, where the repositories stay
 pub IsTurn-directory : (before after : Site) (id : SiteId) (ticket : ℕ) (ask : Ask) (d : Done) (place : Place)
     → past before.directory.journal ≡ ticket → before.directory.site ≡ id
     → IsDirectoryTurn before.directory after.directory ticket 0 ask d
@@ -171,14 +173,17 @@ IsOfName-new d key limits state same at is = record {
   numbered = ap (λ s. past s.journal) is ∙ ap (λ s. length s.journal) (sym is);
 }
 
+-- a name without a state has an empty journal
 pub lines_of_name-none : (repositories : List (Name × State)) (name : Name) → state_of_name repositories name ≡ None
     → lines_of_name repositories name ≡ []
 lines_of_name-none repositories name absent = ap (λ o. option_map_or (λ (r : State). r.journal) o []) absent
 
+-- a name with a state has that state's journal
 pub lines_of_name-some : (repositories : List (Name × State)) (name : Name) (state : State)
     → state_of_name repositories name ≡ Some state → lines_of_name repositories name ≡ state.journal
 lines_of_name-some repositories name state found = ap (λ o. option_map_or (λ (r : State). r.journal) o []) found
 
+-- a turn of a name's state is one of the site, where only that state changes
 pub IsTurn-repository : (d : SiteJournal) (repositories news : List (Name × State)) (key : RepoKey)
     (state after : State) (ask : Ask) (told : Told) (place : Place)
     → d.site ≡ key.site → lines_of_name repositories key.name ≡ state.journal → IsOfName d key.name state

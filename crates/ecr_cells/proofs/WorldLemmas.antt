@@ -72,6 +72,7 @@ world_of-rests sites news site rests =
     (λ cell. lines_at-others sites news site rests.before rests.after rests.changes cell
     (λ there. rests.quiet.lines cell))
 
+-- a desk on which no turn was made is seen as before
 pub still_state_of-rests : (served : List SiteId) (limits : Limits) (sites news : List (SiteId × Site)) (made : ℕ)
     (site : SiteId) → Rests sites news site
     → still_state_of (record { served = served; limits = limits; sites = news; made = made }) ≡ still_state_of
@@ -198,6 +199,7 @@ all_after served limits sites news site before after kept changes =
     (λ there. refl) (λ apart. some)))
     served kept.all
 
+-- the cells are kept after a turn
 pub AreKept-turns : (served : List SiteId) (limits : Limits) (sites news : List (SiteId × Site)) (cell : CellKey)
     (ask : Ask) (told : Told) (place : Place)
     → AreKept served limits sites → Turns sites news cell ask told place → AreKept served limits news
@@ -212,6 +214,7 @@ AreKept-turns served limits sites news cell ask told place kept turns =
           (sound-entered realm (world_of sites) cell ask kept.sound);
     }
 
+-- the cells are kept where no turn was made
 pub AreKept-rests : (served : List SiteId) (limits : Limits) (sites news : List (SiteId × Site)) (site : SiteId)
     → AreKept served limits sites → Rests sites news site → AreKept served limits news
 AreKept-rests served limits sites news site kept rests = record {
@@ -235,6 +238,7 @@ HasCells-kept served limits sites site kept there =
 
 -- ---- sites with no name
 
+-- sites without a name stay so where another one is added
 pub AreEmpty-adds : (served : List SiteId) (limits : Limits) (sites news : List (SiteId × Site)) (site : SiteId)
     → AreEmpty served limits sites → Adds sites news site served limits → AreEmpty served limits news
 AreEmpty-adds served limits sites news site empty adds other =
@@ -253,6 +257,7 @@ IsSome-adds served limits sites news site adds other some =
     (cond_both (is_at (site_order site) other) (Some (empty_site served limits site)) (site_at sites other)
     (λ (o : Option Site). IsSome o) (λ there. refl) (λ apart. some))
 
+-- a site that is added has cells
 pub IsSome-added : (served : List SiteId) (limits : Limits) (sites news : List (SiteId × Site)) (site : SiteId)
     → Adds sites news site served limits → IsSome (site_at news site)
 IsSome-added served limits sites news site adds =
@@ -276,6 +281,7 @@ lines_at-empty served limits sites empty cell =
       nothing served limits cell (Some kept) is =
           ap (λ (w : Site). lines_of_cell w cell) is ∙ of_empty served limits (site_of_cell cell) cell
 
+-- the cells of served sites without a name are kept
 pub AreKept-empty : (served : List SiteId) (limits : Limits) (sites : List (SiteId × Site))
     → AreEmpty served limits sites → All (λ site. IsSome (site_at sites site)) served → AreKept served limits sites
 AreKept-empty served limits sites empty all = record {
@@ -291,6 +297,7 @@ AreKept-empty served limits sites empty all = record {
       (sound-empty (record { served = served; limits = limits }) cell);
 }
 
+-- sites without a name have the journals of a fresh registry
 pub world_of-empty : (served : List SiteId) (limits : Limits) (sites : List (SiteId × Site))
     → AreEmpty served limits sites → world_of sites ≡ fresh
 world_of-empty served limits sites empty = world_of-fresh sites (lines_at-empty served limits sites empty)
@@ -301,6 +308,7 @@ entry_count-is : (entry : Option Entry) → entry_count entry ≡ (if is_some en
 entry_count-is None = refl
 entry_count-is (Some entry) = refl
 
+-- a turn in the cells is the desk's turn, with its entry counted
 pub Took-turns : (served : List SiteId) (limits : Limits) (sites news : List (SiteId × Site)) (made counted : ℕ)
     (cell : CellKey) (ask : Ask) (told : Told) (place : Place)
     → AreKept served limits sites → Turns sites news cell ask told place
@@ -333,6 +341,7 @@ Took-turns served limits sites news made counted cell ask told place kept turns 
 
 -- ---- results
 
+-- a fact holds after an `Err` where it holds at all
 pub on_err_any : {T E P : Type 0} (r : Result T E) → P → OnErr r P
 on_err_any (Ok x) p = tt
 on_err_any (Err e) p = p

@@ -39,6 +39,7 @@ pub record IsAlone {A : Type 0} (before after : DeskState) (script : Script A) (
   pub still : IsStill after
   pub runs : Runs (still_of before) (still_of after) script answer places
 
+-- on a desk of one caller, turns that were all made are the run of the script
 pub Ran-runs : {A : Type 0} (before after : DeskState) (script : Script A) (answer : A) (places : List Place)
     → IsStill before → Ran before after script answer places → IsAlone before after script answer places
 Ran-runs {A} before after script answer places still ran =
@@ -100,6 +101,7 @@ halts-still before now script turns still halted =
     (subst (λ (v : Views). Halts (alone_in desk.realm) v now script turns) (ap (λ (s : DeskState). s.views) still)
     (subst (λ (t : Terms). Halts t before.views now script turns) (ap terms_of still) halted))
 
+-- on a desk of one caller, first turns are those of a run up to their entries
 pub Stopped-runs_to : {A : Type 0} (before after : DeskState) (script : Script A) → IsStill before
     → (stopped : Stopped before after script)
     → RunsTo (still_of before) (still_of after) script (places_of stopped.turns)
@@ -264,6 +266,7 @@ Stopped-none before after script same = record {
       ∙ ap (λ (w : World). w.parts) (sym (run_to-none before.realm (still_of before).world script));
 }
 
+-- a script of which no turn was made was stopped within any number of entries
 pub StoppedWithin-none : {A : Type 0} (most : ℕ) (before after : DeskState) (script : Script A) → after ≡ before
     → StoppedWithin most before after script
 unfolding Stopped-none

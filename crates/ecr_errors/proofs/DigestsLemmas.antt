@@ -9,6 +9,7 @@ abbrev pub more_digests : List Digest → List ℕ
 more_digests [] = []
 more_digests (d ∷ ds) = codes "," ++ digest_text d ++ more_digests ds
 
+-- the text of digests is that of the first, and then those of the others
 pub digests_text-more : (d : Digest) (ds : List Digest) → digests_text (d ∷ ds) ≡ digest_text d ++ more_digests ds
 digests_text-more d [] = sym (append-nil (digest_text d))
 digests_text-more d (e ∷ ds) =

@@ -42,6 +42,7 @@ depth-part_data refusal received key upload = omega (arith, members_depth-with_l
 
 -- ---- any refusal
 
+-- a refusal's JSON has no number with a fraction
 pub has_float-refusal_data : (refusal : Refusal) (key : Option RepoKey) (upload : Option ℕ)
     → has_float (refusal_data refusal key upload) ≡ false
 unfolding refusal_data
@@ -49,6 +50,7 @@ has_float-refusal_data (InvalidLayerPart received) (Some key) (Some upload) =
     has_float-part_data (InvalidLayerPart received) received key upload
 has_float-refusal_data refusal key upload = refl
 
+-- a refusal's JSON isn't too deep to be written
 pub depth-refusal_data : (refusal : Refusal) (key : Option RepoKey) (upload : Option ℕ)
     → depth (refusal_data refusal key upload) ≤ max_depth
 unfolding refusal_data

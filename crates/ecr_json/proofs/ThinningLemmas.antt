@@ -200,12 +200,15 @@ module _ (depth : ℕ) (ts : List Token) where
       (converted of_json (value_with (nested_items depth) (nested_members depth) (t ∷ ts)))
   by_token t = ap (λ r. parse_map thin (converted of_json r)) (value_is depth (t ∷ ts))
 
+  -- a string is read as itself
   pub thin_value-string : (s : List ℕ) → thin_value depth (Token.string s ∷ ts) ≡ Some (string s, ts)
   thin_value-string s = by_token (Token.string s)
 
+  -- a truth value is read as itself
   pub thin_value-boolean : (b : Truth) → thin_value depth (Token.boolean b ∷ ts) ≡ Some (boolean b, ts)
   thin_value-boolean b = by_token (Token.boolean b)
 
+  -- null is read as itself
   pub thin_value-null : thin_value depth (Token.null ∷ ts) ≡ Some (null, ts)
   thin_value-null = by_token Token.null
 
@@ -215,10 +218,12 @@ module _ (depth : ℕ) (ts : List Token) where
   number_thinly None = refl
   number_thinly (Some n) = refl
 
+  -- a number is read as itself, where it is in range
   pub thin_value-number : (s : List ℕ) → thin_value depth (Token.number s ∷ ts) ≡ option_map (λ d. (d, ts))
       (option_map number (number_of s))
   thin_value-number s = by_token (Token.number s) ∙ number_thinly (number_of s)
 
+  -- a list is read thinly by its items, one level deeper
   pub thin_value-array : 0 < depth → thin_value depth (Token.begin_array ∷ ts) ≡ thin_list (depth - 1) ts
   thin_value-array some =
       let all = items (value (depth - 1)) (length ts) ts in
@@ -230,6 +235,7 @@ module _ (depth : ℕ) (ts : List Token) where
   object_thinly None = refl
   object_thinly (Some p) = refl
 
+  -- an object is read as `{}`, with its members passed over
   pub thin_value-object : 0 < depth → thin_value depth (Token.begin_object ∷ ts) ≡ option_map
       (λ rest. (object no_members, rest)) (passed_members (depth - 1) ts)
   thin_value-object some =

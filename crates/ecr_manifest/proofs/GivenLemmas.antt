@@ -18,12 +18,14 @@ through_last-push_other (b ∷ rest) x n =
     ne_eqb (through_last (rest ++ x ∷ [])) 0 (λ z. absurd (omega (arith, e, z))) in
     rw some (ap suc e)
 
+-- a space at the end leaves the last byte that isn't a space where it is
 pub through_last-space : (t : List ℕ) (i : ℕ) → i < length t → get_or t i 0 ≡ 32
     → through_last (take (i + 1) t) ≡ through_last (take i t)
 through_last-space t i h e =
     ap through_last (take_more t i 0 h) ∙ ap (λ (x : ℕ). through_last (take i t ++ x ∷ [])) e
     ∙ through_last-push_space (take i t)
 
+-- a byte that isn't a space is the last one that isn't
 pub through_last-other : (t : List ℕ) (i : ℕ) → i < length t → (get_or t i 0 ≡ 32 → ⊥)
     → through_last (take (i + 1) t) ≡ i + 1
 through_last-other t i h n =

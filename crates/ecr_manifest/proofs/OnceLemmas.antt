@@ -69,10 +69,12 @@ pub absent_where_new : (new there : Bool) → new ≡ true → new ≡ not there
 absent_where_new new true h e = cc (sym e ∙ h)
 absent_where_new new false h e = refl
 
+-- a digest that isn't new was there
 pub there_where_old : (new there : Bool) → new ≡ false → new ≡ not there → there ≡ true
 there_where_old new true h e = refl
 there_where_old new false h e = cc (sym e ∙ h)
 
+-- where a test is false, a fact that is said of a false test holds
 pub where_false : (b : Bool) (P : Type 0) → b ≡ false → OnFalse b P → P
 where_false true P h p = cc h
 where_false false P h p = p

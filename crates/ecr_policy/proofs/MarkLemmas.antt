@@ -16,6 +16,7 @@ pointwise-mark_of a b m n p q differ =
     (λ e. eq-eqb m n (p ∙ ap mark_of ((slice_eq-Decides bytes_eq-Decides a b (pointwise bytes_eq a b) refl).0 e)
     ∙ sym q))
 
+-- texts are compared by their bytes
 pub pointwise-now : (a b : List (Bor (List ℕ)))
     → pointwise (λ x y. bytes_eq x.now y.now) a b ≡ pointwise bytes_eq (map (λ t. t.now) a) (map (λ t. t.now) b)
 pointwise-now [] [] = refl

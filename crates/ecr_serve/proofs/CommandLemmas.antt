@@ -14,6 +14,7 @@ use Rattle.ecr_model.proofs.lemmas.sessions.CommandLemmas.{IsSession-unique}
 use Rattle.ecr_desk.specs.Desks.{StillState}
 use Rattle.ecr_session.proofs.StartLemmas.{Serves-nothing}
 
+-- what is said of other words holds of an end that is the same
 pub SaysUsage-same_end : (before after : Outside) (end other : End) → end ≡ other → SaysUsage before after other
     → SaysUsage before after end
 SaysUsage-same_end before after end other e says = subst (SaysUsage before after) (sym e) says

@@ -38,11 +38,13 @@ use Rattle.ecr_session.proofs.TurnLemmas.{RanWith-ends, RanWith-then, StoppedWit
 
 -- ---- what is posed
 
+-- a request that is no call of the JSON API has no route
 pub posed_of-unrouted : (served : List SiteId) (request : Request) → is_json_call request ≡ false
     → posed_of served request ≡ unrouted
 unfolding posed_of
 posed_of-unrouted served request other = cond-false _ _ _ other
 
+-- a call of the JSON API asks what its body reads as
 pub posed_of-api : (served : List SiteId) (request : Request) (r : Reading) → is_json_call request ≡ true
     → reading (target_of request) request.body (base_of served request) served ≡ r → posed_of served request ≡ api r
 unfolding posed_of
@@ -55,6 +57,7 @@ HasReading-refused why refusal r is reads = subst (λ w. HasReading (Err w) r) i
 
 -- ---- the reply to it
 
+-- the empty reply 404 answers a request without a route, by no turn
 pub IsReplied-unrouted : (seen : DeskState) (posed : Posed) (moment : ℕ) (close : Bool) (reply : HttpReply)
     (sealed : Option Digest) (old : List Place) → posed ≡ unrouted
     → message_bytes reply ≡ empty_reply close (codes "404 Not Found") → sealed ≡ None
@@ -71,6 +74,7 @@ IsReplied-unrouted seen posed moment close reply sealed old is bytes none =
       sealed_is = none;
     })
 
+-- the reply of a refusal answers a body that is refused, by no turn
 pub IsReplied-refused : (seen : DeskState) (posed : Posed) (refusal : Refusal) (moment : ℕ) (close : Bool)
     (reply : HttpReply) (sealed : Option Digest) (old : List Place) → posed ≡ api (refuses refusal)
     → message_bytes reply ≡ refused refusal close → sealed ≡ None
@@ -87,6 +91,7 @@ IsReplied-refused seen posed refusal moment close reply sealed old is bytes none
       sealed_is = none;
     })
 
+-- the reply to what was asked answers the request, by the turns of what was asked
 pub IsReplied-asked : (before after : DeskState) (asked : Asked) (moment : ℕ) (close : Bool) (answer : Decided)
     (contents : List (List ℕ)) (reply : HttpReply) (old now : List Place)
     → RanWith before after (asked_script asked moment) answer old now → AreContents answer.reply contents
@@ -96,6 +101,7 @@ unfolding posed_script posed_bytes
 IsReplied-asked before after asked moment close answer contents reply old now ran carries bytes =
     record { answer = answer; ran = ran; contents = contents; carries = carries; bytes = bytes; sealed_is = refl }
 
+-- a stop among the turns of what was asked is one among those of the request
 pub StoppedWith-asked : (before after : DeskState) (asked : Asked) (moment : ℕ) (old now : List Place)
     → StoppedWith before after (asked_script asked moment) old now
     → StoppedWith before after (posed_script (api (asks asked)) moment) old now
@@ -111,6 +117,7 @@ IsReplied-same before after posed other moment close shut reply sealed old now s
     subst (λ b. IsReplied before after other moment b reply sealed old now) closing
     (subst (λ p. IsReplied before after p moment close reply sealed old now) (sym same) r)
 
+-- a stop among a request's turns is one where the request is told in other words
 pub StoppedWith-same : (before after : DeskState) (posed other : Posed) (moment : ℕ) (old now : List Place)
     → other ≡ posed
     → StoppedWith before after (posed_script posed moment) old now
@@ -125,6 +132,7 @@ Decided-plain reply other sealed same none = cc
 
 -- ---- a call on a site, and what follows of it
 
+-- the turn for the page and then the rows of its names are a description of the page
 pub RanWith-page : (before mid after : DeskState) (s : SiteId) (page : Page) (moment : ℕ) (told : SiteReply)
     (answer : Reply) (old more now : List Place)
     → RanWith before mid (site_script s (site_calls.Names page)) told old more
@@ -135,6 +143,7 @@ RanWith-page before mid after s page moment told answer old more now one other =
     RanWith-then before mid after (site_script s (site_calls.Names page))
     (λ reply. page_script s moment page reply) told answer old more now one other
 
+-- a stop among the rows of a page is one in the description of the page
 pub StoppedWith-page : (before mid after : DeskState) (s : SiteId) (page : Page) (moment : ℕ) (told : SiteReply)
     (old more now : List Place)
     → RanWith before mid (site_script s (site_calls.Names page)) told old more
@@ -145,6 +154,7 @@ StoppedWith-page before mid after s page moment told old more now one other =
     StoppedWith-then before mid after (site_script s (site_calls.Names page))
     (λ reply. page_script s moment page reply) told old more now one other
 
+-- a stop before the page is one in the description of the page
 pub StoppedWith-no_page : (before after : DeskState) (s : SiteId) (page : Page) (moment : ℕ) (old now : List Place)
     → StoppedWith before after (site_script s (site_calls.Names page)) old now
     → StoppedWith before after (describe_script s None page moment) old now
@@ -153,6 +163,7 @@ StoppedWith-no_page before after s page moment old now stopped =
     StoppedWith-first before after (site_script s (site_calls.Names page))
     (λ reply. page_script s moment page reply) old now stopped
 
+-- the turn of a site's call is all that was asked
 pub RanWith-site : (before after : DeskState) (asked : Asked) (s : SiteId) (c : SiteCall) (moment : ℕ)
     (told : SiteReply) (answer : Decided) (old now : List Place) → asked ≡ site s c → answer ≡ plain (of_site told)
     → RanWith before after (site_script s c) told old now
@@ -164,6 +175,7 @@ RanWith-site before after asked s c moment told answer old now what is one =
     (RanWith-then before after after (site_script s c) (λ reply. ends (plain (of_site reply))) told
     (plain (of_site told)) old now now one (RanWith-ends after (plain (of_site told)) now)))
 
+-- a stop before a site's call is one in what was asked
 pub StoppedWith-site : (before after : DeskState) (asked : Asked) (s : SiteId) (c : SiteCall) (moment : ℕ)
     (old now : List Place) → asked ≡ site s c
     → StoppedWith before after (site_script s c) old now → StoppedWith before after (asked_script asked moment) old now
@@ -174,6 +186,7 @@ StoppedWith-site before after asked s c moment old now what stopped =
 
 -- ---- a call on a repository, and DescribeRepositories
 
+-- the turns of a call on a repository are all that was asked
 pub RanWith-cell : (before after : DeskState) (asked : Asked) (key : RepoKey) (c other : Call)
     (given same_given : Option (List ℕ)) (moment : ℕ) (answer : Decided) (old now : List Place)
     → asked ≡ cell key c given → other ≡ c → same_given ≡ given
@@ -185,6 +198,7 @@ RanWith-cell before after asked key c other given same_given moment answer old n
     (subst (λ g. RanWith before after (call_script key c g moment) answer old now) content
     (subst (λ d. RanWith before after (call_script key d same_given moment) answer old now) same one))
 
+-- a stop among the turns of a call on a repository is one in what was asked
 pub StoppedWith-cell : (before after : DeskState) (asked : Asked) (key : RepoKey) (c other : Call)
     (given same_given : Option (List ℕ)) (moment : ℕ) (old now : List Place)
     → asked ≡ cell key c given → other ≡ c → same_given ≡ given
@@ -196,6 +210,7 @@ StoppedWith-cell before after asked key c other given same_given moment old now 
     (subst (λ g. StoppedWith before after (call_script key c g moment) old now) content
     (subst (λ d. StoppedWith before after (call_script key d same_given moment) old now) same one))
 
+-- the description of several repositories is all that was asked
 pub RanWith-many : (before after : DeskState) (asked : Asked) (s : SiteId) (names : Option (List Name)) (page : Page)
     (moment : ℕ) (reply : Reply) (answer : Decided) (old now : List Place)
     → asked ≡ many s names page → answer ≡ plain reply
@@ -208,6 +223,7 @@ RanWith-many before after asked s names page moment reply answer old now what is
     (RanWith-then before after after (describe_script s names page moment) (λ r. ends (plain r)) reply
     (plain reply) old now now one (RanWith-ends after (plain reply) now)))
 
+-- a stop in the description of several repositories is one in what was asked
 pub StoppedWith-many : (before after : DeskState) (asked : Asked) (s : SiteId) (names : Option (List Name))
     (page : Page) (moment : ℕ) (old now : List Place) → asked ≡ many s names page
     → StoppedWith before after (describe_script s names page moment) old now
@@ -224,6 +240,7 @@ entries_of : (first last before after places : ℕ) → first ≡ before → las
     → last - first ≡ places
 entries_of first last before after places one two counted = omega (arith, one, two, counted)
 
+-- a reply after all turns is an answer, with its entries counted and no failure
 pub Answers-replied : (before after : DeskState) (moment : ℕ) (request : Request) (reply : HttpReply)
     (sealed : Option Digest) (old places : List Place) (first last : ℕ) (cut : Cut)
     → cut ≡ cut_of (last - first) false sealed → old ≡ [] → first ≡ before.made → last ≡ after.made
@@ -248,6 +265,7 @@ Answers-replied before after moment request reply sealed old places first last c
           }))),
     )
 
+-- a stop for want of memory is answered by the fixed reply, with its entries counted
 pub Answers-failed : (before after : DeskState) (moment : ℕ) (request : Request) (old places : List Place)
     (first last : ℕ) (cut : Cut) → cut ≡ cut_of (last - first) true None → old ≡ [] → first ≡ before.made
     → last ≡ after.made

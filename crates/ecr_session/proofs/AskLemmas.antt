@@ -60,6 +60,7 @@ first_site-served : (served : List SiteId) → 0 < length served → Contains se
 first_site-served [] some = absurd (omega arith)
 first_site-served (s ∷ served) some = (zero, omega arith, refl)
 
+-- the site to which a request comes is served
 pub site_for-served : (served : List SiteId) (host : Option (List ℕ)) → 0 < length served
     → Contains served (site_for served host)
 unfolding site_for
@@ -141,6 +142,7 @@ reading-fit : (target body : List ℕ) (base : SiteId) (served : List SiteId) �
 unfolding reading
 reading-fit target body base served at = action-fit base served (action_of target) body at
 
+-- what a body asks is for a served site, and its page is in range
 pub reading-askable : (target body : List ℕ) (base : SiteId) (served : List SiteId) (asked : Asked)
     → Contains served base → reading target body base served ≡ asks asked → IsAskable served asked
 reading-askable target body base served asked at is = subst (IsFit served) is (reading-fit target body base served at)

@@ -105,6 +105,7 @@ ends_silently set before mid after point account last s got over ending end open
 not_over : {P : Type 0} → false ≡ true → P
 not_over e = absurd (let no : false ≡ true = e in cc)
 
+-- an input that ends between two requests ends the session with Whole
 pub Serves-whole : (set : SettingOf DeskState) (before mid after : Outside) (point q : Point) (account : Account)
     (last : DeskState) → SoFar set before mid point account last
     → point.closed ≡ false → Nexts mid.left mid.held point after.left after.held q events.End → after.told ≡ mid.told
@@ -112,6 +113,7 @@ pub Serves-whole : (set : SettingOf DeskState) (before mid after : Outside) (poi
 Serves-whole set before mid after point q account last s opened n told =
     ends_silently set before mid after point account last s n.got true ended ends.Whole opened told n.consumed n.gives.0 refl (λ e. n.gives.1) (inl refl) n.within (unspent_grown s.read n.got (requests_of s.exchanges) point s.begins n.unspent)
 
+-- an input that ends within a request ends the session with Truncated
 pub Serves-truncated : (set : SettingOf DeskState) (before mid after : Outside) (point q : Point) (account : Account)
     (last : DeskState) (at : ℕ) → SoFar set before mid point account last
     → point.closed ≡ false → Nexts mid.left mid.held point after.left after.held q (events.Truncated at)
@@ -121,6 +123,7 @@ Serves-truncated set before mid after point q account last at s opened n told =
     (ends.Truncated at) opened told n.consumed n.gives.0 refl (λ e. n.gives.1) refl n.within
     (unspent_grown s.read n.got (requests_of s.exchanges) point s.begins n.unspent)
 
+-- a read that fails ends the session with ReadFault
 pub Serves-fault : (set : SettingOf DeskState) (before mid after : Outside) (point q : Point) (account : Account)
     (last : DeskState) → SoFar set before mid point account last
     → point.closed ≡ false → Nexts mid.left mid.held point after.left after.held q events.ReadFault
@@ -132,6 +135,7 @@ Serves-fault set before mid after point q account last s opened n told rose =
       ends_silently set before mid after point account last s n.got false more ends.ReadFault opened told n.consumed n.gives refl not_over refl n.within (unspent_grown s.read n.got (requests_of s.exchanges) point s.begins n.unspent),
     )
 
+-- where all that may be read was read, the session ends with Spent
 pub Serves-spent : (set : SettingOf DeskState) (before mid after : Outside) (point q : Point) (account : Account)
     (last : DeskState) → SoFar set before mid point account last
     → point.closed ≡ false → Nexts mid.left mid.held point after.left after.held q events.Spent
@@ -145,6 +149,7 @@ Serves-spent set before mid after point q account last s opened n told =
 
 -- ---- no memory
 
+-- want of memory for a request ends the session with Mem
 pub Serves-mem : (set : SettingOf DeskState) (before mid after : Outside) (point q : Point) (account : Account)
     (last : DeskState) → SoFar set before mid point account last
     → point.closed ≡ false → Nexts mid.left mid.held point after.left after.held q events.Mem → after.told ≡ mid.told
@@ -286,6 +291,7 @@ serves_refused set before mid after account last expected end keep later cause (
     let rose = cause cut.0 in
     subst (λ (e : End). ServesOver set before after account last e) (sym cut.0) (omega arith, cut.1)
 
+-- bytes that are no request end the session with Bad, or with WriteFault where their reply is cut off
 pub Serves-bad : (set : SettingOf DeskState) (before mid between after : Outside) (point q : Point)
     (account : Account) (last : DeskState) (at : ℕ) (end : End) → SoFar set before mid point account last
     → point.closed ≡ false → Nexts mid.left mid.held point between.left between.held q (events.Bad at)
@@ -299,6 +305,7 @@ Serves-bad set before mid between after point q account last at end s opened n l
     (refused set before mid between after point account last s n.got (bad_at at) (ends.Bad at) end opened
     (subst (λ l. Consumes mid.left l n.got) (sym left) n.consumed) told n.gives sends refl n.within tt)
 
+-- bytes past a limit end the session with TooLong, or with WriteFault where their reply is cut off
 pub Serves-long : (set : SettingOf DeskState) (before mid between after : Outside) (point q : Point)
     (account : Account) (last : DeskState) (at : ℕ) (section : Section) (limit : ℕ) (end : End)
     → SoFar set before mid point account last
@@ -316,6 +323,7 @@ Serves-long set before mid between after point q account last at section limit e
 
 -- ---- the last request closes the session
 
+-- after a request that closes it, the session has ended with Whole
 pub Completed-closed : (set : SettingOf DeskState) (before after : Outside) (point : Point) (account : Account)
     (last : DeskState) → SoFar set before after point account last → point.closed ≡ true
     → CompletedBy IsServedOver set before after account last ends.Whole

@@ -45,6 +45,7 @@ at_front text front end same =
 
 -- ---- the last `:`
 
+-- a host without a colon has no port
 pub without_port-none : (host : List ℕ) → ((k : ℕ) → k < length host → get_or host k 0 ≢ 58) → without_port host ≡ host
 unfolding without_port
 without_port-none host none =
@@ -52,6 +53,7 @@ without_port-none host none =
     (All-from_get_or (λ c. is_colon c ≡ false) host 0 (λ k inside. ne_eqb (get_or host k 0) 58 (none k inside))) in
     cond-false _ _ _ (and_left _ _ any)
 
+-- a host's port stands behind its last colon, where it is one
 pub without_port-last : (host : List ℕ) (i : ℕ) → i < length host → get_or host i 0 ≡ 58
     → ((k : ℕ) → i + 1 ≤ k → k < length host → get_or host k 0 ≢ 58)
     → without_port host ≡ cond (is_port (drop (i + 1) host)) (take i host) host

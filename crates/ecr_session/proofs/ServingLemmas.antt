@@ -225,6 +225,7 @@ CutOff-serviced set before mid between after point old now seen later request re
           (Appends-trans before.held mid.held between.held (sent_to es) due s.sent n.gives.3) sends.3;
     })
 
+-- a request that was read and served leads the session on, or ends it
 pub GoesOn-request : (set : SettingOf DeskState) (before mid between after : Outside) (point : Point)
     (old now : Session) (seen later : DeskState) (request : Request) (end : Option End)
     → seen.realm ≡ set.realm → SoFar set before mid point (account_in old) seen

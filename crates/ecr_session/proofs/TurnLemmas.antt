@@ -80,6 +80,7 @@ StoppedWith-unheard before after script answer places old now same ran =
 
 -- ---- and then another
 
+-- the turns of one script and then those of the next are the turns of both
 pub RanWith-then : {A B : Type 0} (before mid after : DeskState) (script : Script A) (next : A → Script B) (a : A)
     (b : B) (old more now : List Place)
     → RanWith before mid script a old more → RanWith mid after (next a) b more now
@@ -90,6 +91,7 @@ RanWith-then before mid after script next a b old more now one other = record {
   ran = Ran-then before mid after script next a b one.places other.places one.ran other.ran;
 }
 
+-- a stop in the first of two scripts is a stop in both
 pub StoppedWith-first : {A B : Type 0} (before after : DeskState) (script : Script A) (next : A → Script B)
     (old now : List Place)
     → StoppedWith before after script old now → StoppedWith before after (then_do script next) old now
@@ -102,6 +104,7 @@ StoppedWith-first before after script next old now s = record {
   parts = s.parts;
 }
 
+-- the turns of one script and then a stop in the next are a stop in both
 pub StoppedWith-then : {A B : Type 0} (before mid after : DeskState) (script : Script A) (next : A → Script B) (a : A)
     (old more now : List Place)
     → RanWith before mid script a old more → StoppedWith mid after (next a) more now
@@ -178,6 +181,7 @@ named_step-refused s moment rows names (Refused other) refusal some =
     ap (λ (r : Refusal). ends (Refused r)) (let same : Some refusal ≡ Some other = some in cc)
 named_step-refused s moment rows names _ refusal some = absurd (let no : Some refusal ≡ None = some in cc)
 
+-- a named repository with its row leads to the next name
 pub LeadsTo-named_on : (before now after : DeskState) (whole : Script Reply) (s : SiteId) (moment : ℕ)
     (rows rows_after : List Row) (names : List Name) (i : ℕ) (name : Name) (old places more : List Place)
     → i < length names → name ≡ get_or names i name
@@ -190,6 +194,7 @@ LeadsTo-named_on before now after whole s moment rows rows_after names i name ol
     (named_step-on s moment rows (drop (i + 1) names) d.decided.reply d.refused)
     (LeadsTo-named before now after whole s moment rows rows_after names i name None old places more inside is to d))
 
+-- a named repository that is refused ends the description with that refusal
 pub RanWith-named_refused : (before now after : DeskState) (whole : Script Reply) (s : SiteId) (moment : ℕ)
     (rows rows_after : List Row) (names : List Name) (i : ℕ) (name : Name) (refusal : Refusal)
     (old places more : List Place)
@@ -204,6 +209,7 @@ RanWith-named_refused before now after whole s moment rows rows_after names i na
     (Some refusal) old places more inside is to d)).ran after (Refused refusal) more
     (RanWith-ends after (Refused refusal) more)
 
+-- a stop at a named repository is one in the description
 pub StoppedWith-named : (before now after : DeskState) (whole : Script Reply) (s : SiteId) (moment : ℕ)
     (rows : List Row) (names : List Name) (i : ℕ) (name : Name) (old places more : List Place)
     → i < length names → name ≡ get_or names i name
@@ -234,6 +240,7 @@ listed_at : (s : SiteId) (moment : ℕ) (next : Option ℕ) (rows : List Row) (n
 listed_at s moment next rows names i name inside is =
     ap (listed_script s moment next rows) (drop_more names i name inside ∙ ap (λ n. n ∷ drop (i + 1) names) (sym is))
 
+-- a name of the page, with its row or without one, leads to the next name
 pub LeadsTo-listed : (before now after : DeskState) (whole : Script Reply) (s : SiteId) (moment : ℕ) (next : Option ℕ)
     (rows rows_after : List Row) (names : List Name) (i : ℕ) (name : Name) (refusal : Option Refusal)
     (old places more : List Place)
@@ -249,6 +256,7 @@ LeadsTo-listed before now after whole s moment next rows rows_after names i name
     (subst (λ rest. LeadsTo before now whole rest old places)
     (listed_at s moment next rows names i name inside is) to) d.ran)
 
+-- a stop at a name of the page is one in the description
 pub StoppedWith-listed : (before now after : DeskState) (whole : Script Reply) (s : SiteId) (moment : ℕ)
     (next : Option ℕ) (rows : List Row) (names : List Name) (i : ℕ) (name : Name) (old places more : List Place)
     → i < length names → name ≡ get_or names i name
@@ -312,6 +320,7 @@ RanWith-named_rows before now whole s moment rows others names i old places same
     subst (λ r. RanWith before now whole (Described r None) old places) (sym same)
     (RanWith-named_end before now whole s moment rows names i old places all to)
 
+-- behind the last name of the page the description has the rows
 pub RanWith-listed_rows : (before now : DeskState) (whole : Script Reply) (s : SiteId) (moment : ℕ) (next : Option ℕ)
     (rows others : List Row) (names : List Name) (i : ℕ) (old places : List Place) → others ≡ rows
     → length names ≤ i → LeadsTo before now whole (listed_script s moment next rows (drop i names)) old places

@@ -50,15 +50,18 @@ pub was_there : (there added : Bool) → added ≡ not there → added ≡ false
 was_there true added p q = refl
 was_there false added p q = absurd (both_ways added q p)
 
+-- a name that was added wasn't there
 pub was_not_there : (there added : Bool) → added ≡ not there → added ≡ true → there ≡ false
 was_not_there false added p q = refl
 was_not_there true added p q = absurd (both_ways added p q)
 
+-- a registered name is known
 pub registration-known : (frame : SiteFrame) (d : Directory) (name : Name) → is_registered name d ≡ true
     → registration frame d name ≡ Known
 unfolding registration
 registration-known frame d name known = cond-true (is_registered name d) _ _ known
 
+-- a name that isn't registered is new, where the limit has room
 pub registration-new : (frame : SiteFrame) (d : Directory) (name : Name) → is_registered name d ≡ false
     → length d.names < frame.limits.names → registration frame d name ≡ New
 unfolding registration

@@ -35,6 +35,7 @@ agreed-none : (p : List ℕ) → agreed p [] ≡ 0
 agreed-none [] = refl
 agreed-none (p ∷ ps) = refl
 
+-- past the tag's end no byte of the pattern agrees
 pub agreed-past_tag : (p t : List ℕ) (i : ℕ) → length t ≤ i → agreed p (drop i t) ≡ 0
 agreed-past_tag p t i h = ap (λ l. agreed p l) (drop_all i t h) ∙ agreed-none p
 

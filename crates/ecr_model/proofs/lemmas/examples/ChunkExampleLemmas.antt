@@ -68,5 +68,6 @@ body_stands = record {
   is = refl;
 }
 
+-- the example body in one chunk is read whole
 pub a_chunked_body_is_read : AChunkedBodyIsRead
 a_chunked_body_is_read = (head_states, body_stands)

@@ -60,6 +60,7 @@ rendered = refl
 outcome-posed : outcome_of example_realm fresh 1700000000 first_request ≡ ran
 outcome-posed = ap (λ p. run example_realm fresh (posed_script p 1700000000)) posed
 
+-- the first creation of the example has its answer
 pub a_first_creation_is_answered : AFirstCreationIsAnswered
 unfolding written says_close
 a_first_creation_is_answered =
@@ -97,6 +98,7 @@ first_served =
       leaves = refl;
     }
 
+-- the example's session writes that answer
 pub a_first_session_is_written : AFirstSessionIsWritten
 unfolding interim waits framing_of max_body
 a_first_session_is_written = (
@@ -240,6 +242,7 @@ stops : Stops true last the_end
 unfolding last
 stops = record { front = short false open_; meets = IsFront-nil 154; is = refl }
 
+-- the example's bytes are its one request
 pub a_first_request_is_read : AFirstRequestIsRead
 unfolding last says_close
 a_first_request_is_read = record { point = last; begins = (refl, 154, front, refl); stops = stops }

@@ -76,6 +76,7 @@ line_end-long bytes long = by (nat_lt (line_size bytes) (length bytes)) (le-ltb 
     by true same = rw same refl
     by false same = refl
 
+-- a line that has ended ends at the same place where more bytes follow
 pub line_end-append : (bytes more : List ℕ) (n : ℕ) → line_end bytes ≡ Some n → line_end (bytes ++ more) ≡ Some n
 line_end-append bytes more n is =
     let parts : (line_size bytes ≡ n) × (n < length bytes) × (n < max_chunk_line) = line_end-is bytes n is in
@@ -121,6 +122,7 @@ IsLined-unique : (limit so_far : ℕ) (bytes : List ℕ) (end size : Option ℕ)
 IsLined-unique limit so_far bytes None size a b x y = x ∙ sym y
 IsLined-unique limit so_far bytes (Some n) size a b x y = IsSaid-unique limit so_far bytes n size a b x y
 
+-- bytes have at most one part at their front
 pub IsPart-unique : (limit so_far : ℕ) (bytes : List ℕ) (a b : Part) → IsPart limit so_far bytes a
     → IsPart limit so_far bytes b → a ≡ b
 IsPart-unique limit so_far bytes a b x y =
@@ -219,6 +221,7 @@ IsSaid-append limit so_far bytes more n (Some (suc k)) part within settled is =
     (sym (ap is_settled_part is) ∙ settled))
     ∙ ap (λ (b : List ℕ). if_within limit so_far (suc k) (chunk_of (suc n) b (suc k))) (sym longer)
 
+-- a line that is there whole says the same where more bytes follow
 pub Says-append : (bytes more : List ℕ) (n : ℕ) (size : Option ℕ) → suc n ≤ length bytes
     → Says (take (suc n) bytes) size
     → Says (take (suc n) (bytes ++ more)) size
@@ -259,6 +262,7 @@ IsLined-append limit so_far bytes more (Some n) size part ends says settled is =
     IsPart-by limit so_far (bytes ++ more) (Some n) size part (line_end-append bytes more n ends)
     (Says-append bytes more n size within says) (IsSaid-append limit so_far bytes more n size part within settled is)
 
+-- a settled part stays where more bytes follow
 pub IsPart-append : (limit so_far : ℕ) (bytes more : List ℕ) (part : Part) → is_settled_part part ≡ true
     → IsPart limit so_far bytes part → IsPart limit so_far (bytes ++ more) part
 IsPart-append limit so_far bytes more part settled is =
@@ -361,16 +365,19 @@ IsLined-last_length limit so_far bytes None size m ends is = absurd (cc)
 IsLined-last_length limit so_far bytes (Some n) size m ends is =
     IsSaid-last_length limit so_far bytes n size m (omega (arith, (line_end-is bytes n ends).1)) is
 
+-- a chunk takes at least one byte
 pub IsPart-chunk_positive : (limit so_far : ℕ) (bytes c : List ℕ) (n : ℕ) → IsPart limit so_far bytes (chunk c n)
     → 0 < n
 IsPart-chunk_positive limit so_far bytes c n is =
     (IsLined-chunk_length limit so_far bytes (line_end bytes) is.size c n refl is.is).0
 
+-- a chunk takes no more bytes than there are
 pub IsPart-chunk_length : (limit so_far : ℕ) (bytes c : List ℕ) (n : ℕ) → IsPart limit so_far bytes (chunk c n)
     → n ≤ length bytes
 IsPart-chunk_length limit so_far bytes c n is =
     (IsLined-chunk_length limit so_far bytes (line_end bytes) is.size c n refl is.is).1
 
+-- the last chunk takes no more bytes than there are
 pub IsPart-last_length : (limit so_far : ℕ) (bytes : List ℕ) (n : ℕ) → IsPart limit so_far bytes (last_chunk n)
     → n ≤ length bytes
 IsPart-last_length limit so_far bytes n is =
@@ -393,6 +400,7 @@ Comes-append limit p others part settled comes = IsPart-append limit (length p.b
 pub Comes-unique : (limit : ℕ) (p : Progress) (a b : Part) → Comes limit p a → Comes limit p b → a ≡ b
 Comes-unique limit p a b x y = IsPart-unique limit (length p.body) p.ahead a b x y
 
+-- the same chunks stand between where more bytes follow
 pub Chunks-append : (limit : ℕ) (p : Progress) (others : List ℕ) (cs : List (List ℕ)) (q : Progress)
     → Chunks limit p cs q
     → Chunks limit (with_more p others) cs (with_more q others)
@@ -406,6 +414,7 @@ Chunks-append limit p others (c ∷ cs) q begins = (
       (Chunks-append limit (past_chunk p c begins.0) others cs q begins.2),
 )
 
+-- chunks and the one that comes next are one chunk more
 pub Chunks-more : (limit : ℕ) (p : Progress) (cs : List (List ℕ)) (q : Progress) (c : List ℕ) (n : ℕ)
     → Chunks limit p cs q
     → Comes limit q (chunk c n) → Chunks limit p (cs ++ c ∷ []) (past_chunk q c n)
@@ -414,6 +423,7 @@ Chunks-more limit p [] q c n begins comes =
 Chunks-more limit p (d ∷ cs) q c n begins comes =
     (begins.0, begins.1, Chunks-more limit (past_chunk p d begins.0) cs q c n begins.2 comes)
 
+-- the bytes used and those that come are as many after chunks as before them
 pub Chunks-length : (limit : ℕ) (p : Progress) (cs : List (List ℕ)) (q : Progress) → Chunks limit p cs q
     → q.at + length q.ahead ≡ p.at + length p.ahead
 Chunks-length limit p [] q begins = ap (λ (x : Progress). x.at + length x.ahead) begins
@@ -454,6 +464,7 @@ Chunks-unique limit p (c ∷ cs) (d ∷ ds) q w part other front last x y comes 
     Chunks-unique limit (past_chunk p c x.0) cs ds q w part other front last x.2
     (subst (λ (z : Progress). Chunks limit z ds w) behind y.2) comes is also has
 
+-- bytes have at most one front as a chunked body
 pub IsChunked-unique : (limit : ℕ) (bytes : List ℕ) (a b : BodyFront) → IsChunked limit bytes a
     → IsChunked limit bytes b
     → a ≡ b
@@ -479,6 +490,7 @@ front_of-more p others (chunk c n) = refl
 front_of-more p others (last_chunk n) = refl
 front_of-more p others (lacking lack) = refl
 
+-- a settled front of a chunked body stays where more bytes follow
 pub IsChunked-append : (limit : ℕ) (bytes more : List ℕ) (front : BodyFront) → is_settled_body front ≡ true
     → IsChunked limit bytes front → IsChunked limit (bytes ++ more) front
 IsChunked-append limit bytes more front settled is = record {
@@ -499,6 +511,7 @@ whole_length limit bytes p (last_chunk m) body n all comes is =
     let total : p.at + m ≡ n = cc in
     omega (arith, IsPart-last_length limit (length p.body) p.ahead m comes)
 
+-- a whole chunked body takes no more bytes than there are
 pub IsChunked-length : (limit : ℕ) (bytes body : List ℕ) (n : ℕ) → IsChunked limit bytes (complete body n)
     → n ≤ length bytes
 IsChunked-length limit bytes body n is =

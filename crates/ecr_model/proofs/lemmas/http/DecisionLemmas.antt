@@ -330,6 +330,7 @@ Section_decided = record {
 
 -- ---- a request's head
 
+-- bytes begin with a request's head, or they don't
 pub RequestHead_decided : IsDecided (Then RequestStart Section)
 RequestHead_decided =
     Then_decided RequestStart_deterministic
@@ -422,6 +423,7 @@ extension text = by (starts (print_end crlf) text) (starts (59 ∷ []) text)
     by (inr no_end) (inr none) = inr λ z. neither no_end
         (λ x rest passes whole. none (x ++ (13 ∷ 10 ∷ rest), whole)) z.0 z.1 z.2
 
+-- bytes begin with a chunk's line, or they don't
 pub Chunk_decided : IsDecided Chunk
 Chunk_decided =
     Then_decided HexDigits_deterministic (record { decide = digits })

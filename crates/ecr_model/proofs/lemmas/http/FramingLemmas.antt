@@ -21,6 +21,7 @@ ends_empty-append bytes more (suc (suc k)) within =
     get_or_append_left bytes more 0 (suc (suc k) - 3) (omega arith) in
     cc
 
+-- a head ends at the same place where more bytes follow
 pub IsEnd-append : (limit : ℕ) (bytes more : List ℕ) (n : ℕ) → IsEnd limit bytes n → IsEnd limit (bytes ++ more) n
 IsEnd-append limit bytes more n is = record {
   within = omega (arith, length-append bytes more, is.within);
@@ -31,6 +32,7 @@ IsEnd-append limit bytes more n is = record {
       ends_empty-append bytes more k within ∙ is.first k below;
 }
 
+-- where no empty line ends within the first n bytes, none does with more bytes behind them
 pub HasNoEnd-append : (bytes more : List ℕ) (n : ℕ) → n ≤ length bytes → HasNoEnd bytes n → HasNoEnd (bytes ++ more) n
 HasNoEnd-append bytes more n within none_ends k below =
     let inside : k ≤ length bytes = omega arith in ends_empty-append bytes more k inside ∙ none_ends k below
@@ -47,6 +49,7 @@ IsEnd-unique limit bytes n m a b = ⊎_elim (λ same. same)
     (λ above. absurd (both_ways _ (a.first m above) b.ends)))
     (cases_order n m)
 
+-- bytes have at most one place where the head ends
 pub EndsAt-unique : (limit : ℕ) (bytes : List ℕ) (a b : Option ℕ) → EndsAt limit bytes a → EndsAt limit bytes b → a ≡ b
 EndsAt-unique limit bytes None None a b = refl
 EndsAt-unique limit bytes None (Some m) a b =
@@ -57,6 +60,7 @@ EndsAt-unique limit bytes (Some n) None a b =
     absurd (both_ways _ (b n inside) a.ends)
 EndsAt-unique limit bytes (Some n) (Some m) a b = ap Some (IsEnd-unique limit bytes n m a b)
 
+-- bytes are at most one head
 pub Parses-unique : (bytes : List ℕ) (a b : Option Head) → Parses bytes a → Parses bytes b → a ≡ b
 Parses-unique bytes None None a b = refl
 Parses-unique bytes None (Some h) a b = absurd (a b.0 b.1)

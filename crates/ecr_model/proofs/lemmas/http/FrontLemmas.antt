@@ -30,6 +30,7 @@ IsFront-no_head at bytes none_ends small = record {
   is = rw (lt-ltb (length bytes) max_head small) refl;
 }
 
+-- where no byte is there, the front is open
 pub IsFront-nil : (at : ℕ) → IsFront at [] (short false open_)
 unfolding max_head ends_empty
 IsFront-nil at = IsFront-no_head at [] none_ends (omega arith)
@@ -38,6 +39,7 @@ IsFront-nil at = IsFront-no_head at [] none_ends (omega arith)
     none_ends zero below = refl
     none_ends (suc k) below = absurd (omega arith)
 
+-- a head without an end within its limit is too long
 pub IsFront-long : (at : ℕ) (bytes : List ℕ) → HasNoEnd bytes (min (length bytes) max_head) → max_head ≤ length bytes
     → IsFront at bytes (short false (too_long sections.Head max_head))
 IsFront-long at bytes none_ends long = record {
@@ -48,16 +50,19 @@ IsFront-long at bytes none_ends long = record {
   is = rw (le-ltb (length bytes) max_head long) refl;
 }
 
+-- bytes up to the empty line that are no head are bad
 pub IsFront-no_grammar : (at : ℕ) (bytes : List ℕ) (n : ℕ) → IsEnd max_head bytes n → Parses (take n bytes) None
     → IsFront at bytes (short false bad)
 IsFront-no_grammar at bytes n ends parses =
     record { end = Some n; head = None; ends = ends; parses = parses; is = refl }
 
+-- a head that doesn't say how its body is delimited is bad
 pub IsFront-unframed : (at : ℕ) (bytes : List ℕ) (n : ℕ) (head : Head) → IsEnd max_head bytes n
     → Parses (take n bytes) (Some head) → framing_of head ≡ None → IsFront at bytes (short false bad)
 IsFront-unframed at bytes n head ends parses none_framed =
     record { end = Some n; head = Some head; ends = ends; parses = parses; is = rw none_framed refl }
 
+-- a head and the front of its body are the front of the bytes
 pub IsFront-body : (at : ℕ) (bytes : List ℕ) (n : ℕ) (head : Head) (framing : Framing) (body : BodyFront)
     → IsEnd max_head bytes n → Parses (take n bytes) (Some head) → framing_of head ≡ Some framing
     → IsBody (max_body head.target) (drop n bytes) framing body → IsFront at bytes (with_body at n head body)
@@ -88,16 +93,19 @@ sized-open : (limit size : ℕ) (bytes : List ℕ) → nat_le size limit ≡ tru
     → sized_front limit bytes size ≡ lacks open_
 sized-open limit size bytes fits there = rw (fits, there) refl
 
+-- a body of stated length within the limit is whole where its bytes are there
 pub IsBody-sized : (limit size : ℕ) (bytes : List ℕ) → size ≤ limit → size ≤ length bytes
     → IsBody limit bytes (Sized size) (complete (take size bytes) size)
 IsBody-sized limit size bytes fits there =
     sym (sized-complete limit size bytes (le-leb size limit fits) (le-leb size (length bytes) there))
 
+-- a body of stated length within the limit is open where a byte of it isn't there yet
 pub IsBody-sized_open : (limit size : ℕ) (bytes : List ℕ) → size ≤ limit → length bytes < size
     → IsBody limit bytes (Sized size) (lacks open_)
 IsBody-sized_open limit size bytes fits few =
     sym (sized-open limit size bytes (le-leb size limit fits) (lt-leb size (length bytes) few))
 
+-- a body whose stated length passes the limit is too long
 pub IsBody-sized_long : (limit size : ℕ) (bytes : List ℕ) → limit < size
     → IsBody limit bytes (Sized size) (lacks (too_long sections.Body limit))
 IsBody-sized_long limit size bytes over = sym (sized-too_long limit size bytes (lt-leb size limit over))
@@ -139,6 +147,7 @@ sized-length limit size bytes content n true true fit come is =
 sized-length limit size bytes content n true false fit come is =
     let clash : complete content n ≡ lacks open_ = is ∙ sized-open limit size bytes fit come in absurd (cc)
 
+-- a whole body takes no more bytes than there are
 pub IsBody-length : (limit : ℕ) (bytes : List ℕ) (framing : Framing) (content : List ℕ) (n : ℕ)
     → IsBody limit bytes framing (complete content n) → n ≤ length bytes
 IsBody-length limit bytes (Sized size) content n is =
@@ -165,6 +174,7 @@ ParsesTo-unique : (bytes : List ℕ) (end : Option ℕ) (a b : Option Head) → 
 ParsesTo-unique bytes None a b x y = x ∙ sym y
 ParsesTo-unique bytes (Some n) a b x y = Parses-unique (take n bytes) a b x y
 
+-- bytes have at most one front
 pub IsFront-unique : (at : ℕ) (bytes : List ℕ) (f g : Front) → IsFront at bytes f → IsFront at bytes g → f ≡ g
 IsFront-unique at bytes f g a b =
     let ends : b.end ≡ a.end = EndsAt-unique max_head bytes b.end a.end b.ends a.ends in
@@ -198,12 +208,14 @@ headed_length at bytes (Some end) None r n ends is = absurd (cc)
 headed_length at bytes (Some end) (Some head) r n ends is =
     framed_length at bytes end head (framing_of head) r n ends is
 
+-- a whole request takes at least one byte, and no more than there are
 pub IsFront-whole_length : (at : ℕ) (bytes : List ℕ) (r : Request) (n : ℕ) → IsFront at bytes (whole r n)
     → (0 < n) × (n ≤ length bytes)
 IsFront-whole_length at bytes r n front = headed_length at bytes front.end front.head r n front.ends front.is
 
 -- ---- more bytes
 
+-- the first n bytes are the same head where more bytes follow
 pub Parses-append : (bytes more : List ℕ) (n : ℕ) (head : Option Head) → n ≤ length bytes
     → Parses (take n bytes) head → Parses (take n (bytes ++ more)) head
 Parses-append bytes more n head within parses = rw (take-append-le n bytes more within) parses
@@ -258,6 +270,7 @@ headed_append at bytes more (Some n) (Some head) front ends parses settled is = 
   is = framed_append at bytes more n head (framing_of head) front ends.within settled is;
 }
 
+-- a settled front stays where more bytes follow
 pub IsFront-append : (at : ℕ) (bytes more : List ℕ) (front : Front) → is_settled front ≡ true → IsFront at bytes front
     → IsFront at (bytes ++ more) front
 IsFront-append at bytes more front settled is =

@@ -11,18 +11,21 @@ use Rattle.ecr_model.proofs.lemmas.http.ChunkLemmas.{IsPart-by}
 
 -- ---- the line
 
+-- a chunk's line that hasn't ended within its limit yet is open
 pub IsPart-open_line : (limit so_far : ℕ) (bytes : List ℕ) → line_end bytes ≡ None → length bytes < max_chunk_line
     → IsPart limit so_far bytes (lacking open_)
 IsPart-open_line limit so_far bytes ends few =
     IsPart-by limit so_far bytes None None (lacking open_) ends refl
     (rw (lt-ltb (length bytes) max_chunk_line few) refl)
 
+-- a chunk's line that passes its limit is bad
 pub IsPart-long_line : (limit so_far : ℕ) (bytes : List ℕ) → line_end bytes ≡ None → max_chunk_line ≤ length bytes
     → IsPart limit so_far bytes (lacking bad)
 IsPart-long_line limit so_far bytes ends long =
     IsPart-by limit so_far bytes None None (lacking bad) ends refl
     (rw (le-ltb (length bytes) max_chunk_line long) refl)
 
+-- a line that is no chunk's is bad
 pub IsPart-no_size : (limit so_far : ℕ) (bytes : List ℕ) (n : ℕ) → line_end bytes ≡ Some n
     → Says (take (suc n) bytes) None
     → IsPart limit so_far bytes (lacking bad)
@@ -43,6 +46,7 @@ IsPart-sized limit so_far bytes n size part ends says some is =
     IsPart-by limit so_far bytes (Some n) (Some size) part ends says
     (IsSaid-some limit so_far bytes n size part some is)
 
+-- a chunk with which the body passes its limit is too long
 pub IsPart-over : (limit so_far : ℕ) (bytes : List ℕ) (n size : ℕ) → line_end bytes ≡ Some n
     → Says (take (suc n) bytes) (Some size) → 0 < size → limit < so_far + size
     → IsPart limit so_far bytes (lacking (too_long sections.Body limit))
@@ -77,12 +81,14 @@ IsPart-open_data limit so_far bytes n size ends says some within few =
 
 -- ---- the last chunk
 
+-- the line of size 0 and a trailer section that ends are the last chunk
 pub IsPart-last : (limit so_far : ℕ) (bytes : List ℕ) (n end : ℕ) → line_end bytes ≡ Some n
     → Says (take (suc n) bytes) (Some 0) → IsEnd (1 + max_trailers) (drop n bytes) end
     → IsPart limit so_far bytes (last_chunk (n + end))
 IsPart-last limit so_far bytes n end ends says trailers =
     IsPart-by limit so_far bytes (Some n) (Some 0) (last_chunk (n + end)) ends says (Some end, trailers, refl)
 
+-- a trailer section that hasn't ended within its limit yet is open
 pub IsPart-open_trailers : (limit so_far : ℕ) (bytes : List ℕ) (n : ℕ) → line_end bytes ≡ Some n
     → Says (take (suc n) bytes) (Some 0) → HasNoEnd (drop n bytes) (min (length (drop n bytes)) (1 + max_trailers))
     → length (drop n bytes) ≤ max_trailers → IsPart limit so_far bytes (lacking open_)
@@ -90,6 +96,7 @@ IsPart-open_trailers limit so_far bytes n ends says none_ends few =
     IsPart-by limit so_far bytes (Some n) (Some 0) (lacking open_) ends says
     (None, none_ends, rw (le-leb (length (drop n bytes)) max_trailers few) refl)
 
+-- a trailer section that passes its limit is too long
 pub IsPart-long_trailers : (limit so_far : ℕ) (bytes : List ℕ) (n : ℕ) → line_end bytes ≡ Some n
     → Says (take (suc n) bytes) (Some 0) → HasNoEnd (drop n bytes) (min (length (drop n bytes)) (1 + max_trailers))
     → max_trailers < length (drop n bytes) → IsPart limit so_far bytes (lacking (too_long sections.Trailers max_trailers))
@@ -108,11 +115,13 @@ Chunks-ahead limit bytes p (c ∷ cs) q ahead begins =
     Chunks-ahead limit bytes (past_chunk p c begins.0) cs q
     (ap (drop begins.0) ahead ∙ drop-drop begins.0 p.at bytes) begins.2
 
+-- chunks and a part that lacks something are a body that lacks it
 pub IsChunked-lacks : (limit : ℕ) (bytes : List ℕ) (cs : List (List ℕ)) (p : Progress) (lack : Lack)
     → Chunks limit (begun bytes) cs p → Comes limit p (lacking lack) → IsChunked limit bytes (lacks lack)
 IsChunked-lacks limit bytes cs p lack begins comes =
     record { chunks = cs; progress = p; part = lacking lack; begins = begins; comes = comes; is = refl }
 
+-- chunks and the last chunk are a whole body
 pub IsChunked-whole : (limit : ℕ) (bytes : List ℕ) (cs : List (List ℕ)) (p : Progress) (n : ℕ)
     → Chunks limit (begun bytes) cs p → Comes limit p (last_chunk n)
     → IsChunked limit bytes (complete p.body (p.at + n))

@@ -234,5 +234,6 @@ reads_by bytes over zero rs p few begins =
 reads_by bytes over (suc n) rs p few begins =
     reads_at bytes over rs p begins (λ ss q less on. reads_by bytes over n ss q (omega arith) on) p.closed refl
 
+-- bytes have at least one reading
 pub bytes_have_a_reading : BytesHaveAReading
 bytes_have_a_reading bytes over = reads_by bytes over (length bytes) [] (start bytes) (omega arith) refl

@@ -11,15 +11,18 @@ use Rattle.ecr_model.proofs.lemmas.http.FrontLemmas.{is_settled, is_settled_lack
 
 -- ---- blank bytes
 
+-- there are no more blank bytes at the front than bytes
 pub blank_length-le : (bytes : List ℕ) → blank_length bytes ≤ length bytes
 blank_length-le bytes = prefix_len-le-length is_blank bytes
 
+-- where another byte follows the blank ones, more bytes behind don't change their number
 pub blank_length-append : (bytes others : List ℕ) → blank_length bytes < length bytes
     → blank_length (bytes ++ others) ≡ blank_length bytes
 blank_length-append bytes others before =
     prefix_len-append is_blank bytes others
     ∙ cond-false _ _ _ (ne_eqb (blank_length bytes) (length bytes) (λ same. omega arith))
 
+-- some of the blank bytes, and those behind them, are all of them
 pub blank_length-drop : (bytes : List ℕ) (s : ℕ) → s ≤ blank_length bytes
     → s + blank_length (drop s bytes) ≡ blank_length bytes
 blank_length-drop bytes zero before = omega arith
@@ -36,6 +39,7 @@ blank_length-drop (b ∷ bytes) (suc s) before =
         omega arith
     under false room step = absurd (omega arith)
 
+-- behind the blank bytes no blank one comes
 pub blank_length-skipped : (bytes : List ℕ) → blank_length (drop (blank_length bytes) bytes) ≡ 0
 blank_length-skipped bytes =
     let all : blank_length bytes + blank_length (drop (blank_length bytes) bytes) ≡ blank_length bytes =
@@ -88,6 +92,7 @@ Meets-append p others front settled meets =
 pub Meets-unique : (p : Point) (f g : Front) → Meets p f → Meets p g → f ≡ g
 Meets-unique p f g a b = IsFront-unique (past_blank p).at (past_blank p).ahead f g a b
 
+-- a whole request that comes next takes at least one byte, and no more than there are
 pub Meets-length : (p : Point) (r : Request) (n : ℕ) → Meets p (whole r n) → (0 < n)
     × (n ≤ length (past_blank p).ahead)
 Meets-length p r n meets = IsFront-whole_length (past_blank p).at (past_blank p).ahead r n meets
@@ -108,6 +113,7 @@ past_blank-length p =
 
 -- ---- several requests
 
+-- the same requests stand between where more bytes follow
 pub Begins-append : (p : Point) (others : List ℕ) (rs : List Request) (q : Point) → Begins p rs q
     → Begins (grown p others) rs (grown q others)
 Begins-append p others [] q begins = ap (λ (x : Point). grown x others) begins
@@ -119,6 +125,7 @@ Begins-append p others (r ∷ rs) q begins = (
       (Begins-append (past_request p r begins.1) others rs q begins.3),
 )
 
+-- requests and the one that comes next are one request more
 pub Begins-more : (p : Point) (rs : List Request) (q : Point) (r : Request) (n : ℕ) → Begins p rs q → q.closed ≡ false
     → Meets q (whole r n) → Begins p (rs ++ r ∷ []) (past_request q r n)
 Begins-more p [] q r n begins opened meets =
@@ -130,6 +137,7 @@ Begins-more p (s ∷ rs) q r n begins opened meets = (
   Begins-more (past_request p s begins.1) rs q r n begins.3 opened meets,
 )
 
+-- the bytes used and those that come are as many after requests as before them
 pub Begins-length : (p : Point) (rs : List Request) (q : Point) → Begins p rs q
     → q.at + length q.ahead ≡ p.at + length p.ahead
 Begins-length p [] q begins = ap (λ (x : Point). x.at + length x.ahead) begins
@@ -192,6 +200,7 @@ none_later p over [] q tail begins stops = (refl, begins)
 none_later p over (r ∷ rs) q tail begins stops =
     absurd (Stops_not_whole over p tail r begins.1 stops begins.0 begins.2)
 
+-- bytes have at most one reading
 pub Reads-unique : RequestsAreDetermined
 Reads-unique bytes over rs ss t u x y =
     let front : (later : List Request) × (ss ≡ rs ++ later) × Begins x.point later y.point =
@@ -251,6 +260,7 @@ stops_stay true over late p others tail last stops = stops
 stops_stay false over late p others tail last stops =
     lacks_stay over late p others tail stops.front last stops.meets stops.is
 
+-- where the bytes show the last that counts, they show the same whatever follows
 pub Reads-last : AnEndStays
 Reads-last bytes others over late rs tail last reads = record {
   point = grown reads.point others;
@@ -260,6 +270,7 @@ Reads-last bytes others over late rs tail last reads = record {
 
 -- ---- a part of the bytes
 
+-- a part of the bytes has the first requests of all of them
 pub a_cut_changes_nothing : ACutChangesNothing
 a_cut_changes_nothing bytes others over late rs all tail last reads whole_reads =
     let front : (later : List Request) × (all ≡ rs ++ later)

@@ -123,6 +123,7 @@ pub site_of-off : (word : List ℕ) → is_site_word word ≡ false → site_of 
 unfolding site_of
 site_of-off word h = cond-false (is_site_word word) (Some (parts_of word)) None h
 
+-- a word of a site reads as the site of its region and its account
 pub site_of-on : (word region account : List ℕ) → is_site_word word ≡ true → region ≡ region_of word
     → account ≡ account_digits word → site_of word ≡ Some (record { region = region; account = account })
 unfolding site_of
@@ -142,11 +143,13 @@ site_of-site_word site h = (site_of-ReadsSite (site_word site) site).1 (record {
 
 -- ---- texts
 
+-- a text of UTF-8 is kept
 pub utf8_or_empty-IsUtf8 : (text : List ℕ) → IsUtf8 text → utf8_or_empty text ≡ text
 unfolding utf8_or_empty
 utf8_or_empty-IsUtf8 text h =
     cond-true _ _ _ (eq-eqb (utf8_valid_len text) (length text) (utf8_valid_len-IsUtf8 text h))
 
+-- of a text that isn't UTF-8 throughout nothing is kept
 pub utf8_or_empty-short : (text : List ℕ) → utf8_valid_len text < length text → utf8_or_empty text ≡ []
 unfolding utf8_or_empty
 utf8_or_empty-short text h = cond-false _ _ _ (ne_eqb (utf8_valid_len text) (length text) (λ e. omega arith))

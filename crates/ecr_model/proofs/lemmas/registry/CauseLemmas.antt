@@ -86,6 +86,7 @@ names_now realm world key =
     directories.directory_at (frame_of realm key.site) (world.journals (Directory key.site))
     (next_ticket world (Directory key.site))
 
+-- that there is no such repository is answered only for one of its two causes
 pub not_found_has_its_cause : NotFoundHasItsCause
 unfolding call_script first_turn then_do run turn_at entered
 not_found_has_its_cause realm world key (Create mutability) given moment is =

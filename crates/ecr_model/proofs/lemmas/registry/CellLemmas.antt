@@ -40,6 +40,7 @@ bytes_eq-same a b is = (bytes_eq-Decides a b).0 is
 pub same_site-self : (a : SiteId) → same_site a a ≡ true
 same_site-self a = ap (λ t. t && bytes_eq a.account a.account) (bytes_eq-self a.region) ∙ bytes_eq-self a.account
 
+-- sites that compare as the same are equal
 pub same_site-same : (a b : SiteId) → same_site a b ≡ true → a ≡ b
 same_site-same a b is =
     let parts = and_parts (bytes_eq a.region b.region) (bytes_eq a.account b.account) is in
@@ -52,6 +53,7 @@ same_site-same a b is =
 pub same_key-self : (a : RepoKey) → same_key a a ≡ true
 same_key-self a = ap (λ t. t && same_site a.site a.site) (bytes_eq-self a.name.text) ∙ same_site-self a.site
 
+-- repositories that compare as the same are equal
 pub same_key-same : (a b : RepoKey) → same_key a b ≡ true → a ≡ b
 same_key-same a b is =
     let parts = and_parts (bytes_eq a.name.text b.name.text) (same_site a.site b.site) is in

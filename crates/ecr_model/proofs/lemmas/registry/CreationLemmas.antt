@@ -114,6 +114,7 @@ after_name realm world key mutability shown given moment created (Full limit cou
     (entered realm world (Directory key.site) (registers key.name (Full limit count)).entry)
     (LimitExceeded limit count) created shown is)
 
+-- a creation that is answered stands in the repository's journal once more, behind its other lines
 pub a_creation_is_kept : ACreationIsKept
 unfolding call_script first_turn then_do run turn_at
 a_creation_is_kept realm world key mutability shown given moment created is =

@@ -25,9 +25,11 @@ SharedText-send = search (sendable, crosses) depth 60 fits 20000
 pub Digest-send : IsSend Digest.the_row
 Digest-send = search (sendable, crosses) depth 60 fits 20000
 
+-- names may cross threads
 pub Name-send : IsSend Name.the_row
 Name-send = search (SharedText-send, sendable, crosses) depth 60 fits 20000
 
+-- sites may cross threads
 pub SiteId-send : IsSend SiteId.the_row
 SiteId-send = search (SharedText-send, sendable, crosses) depth 60 fits 20000
 
@@ -49,12 +51,15 @@ Act-send = search (Digest-send, SiteId-send, sendable, crosses) depth 60 fits 20
 pub Entry-send : IsSend Entry.the_row
 Entry-send = search (sendable, crosses) depth 60 fits 20000
 
+-- lines of journals may cross threads
 pub Line-send : IsSend Line.the_row
 Line-send = search (sendable, crosses) depth 60 fits 20000
 
+-- places of turns may cross threads
 pub Place-send : IsSend Place.the_row
 Place-send = search (sendable, crosses) depth 60 fits 20000
 
+-- results of registrations may cross threads
 pub Registered-send : IsSend Registered.the_row
 Registered-send = search (sendable, crosses) depth 60 fits 20000
 
@@ -64,9 +69,11 @@ Refusal-send = search (Digest-send, sendable, crosses) depth 60 fits 20000
 pub Described-send : IsSend Described.the_row
 Described-send = search (sendable, crosses) depth 60 fits 20000
 
+-- replies may cross threads
 pub Reply-send : IsSend Reply.the_row
 Reply-send = search (Described-send, sendable, crosses) depth 60 fits 20000
 
+-- a site's replies may cross threads
 pub SiteReply-send : IsSend SiteReply.the_row
 SiteReply-send = search (Name-send, sendable, crosses) depth 60 fits 20000
 

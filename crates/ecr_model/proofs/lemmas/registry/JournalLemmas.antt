@@ -28,6 +28,7 @@ module _ {S : Type 0} (after : S → Line → Option S) where
   IsSoundFrom-first_part low s (l ∷ ls) news sound =
       (sound.0, (sound.1.0, sound.1.1, IsSoundFrom-first_part (suc l.ticket) sound.1.0 ls news sound.1.2))
 
+  -- a sound journal stays sound with a later line that changes its state
   pub IsSoundFrom-push : (low : ℕ) (s : S) (lines : List Line) (line : Line) (next : S)
       → IsSoundFrom after low s lines → past_from low lines ≤ line.ticket
       → after (replay after s lines) line ≡ Some next
@@ -120,22 +121,28 @@ below-append lines news ticket late =
     ∙ (ap (λ ls. below ticket lines ++ ls) none ∙ append-nil (below ticket lines))
 
 module _ {S : Type 0} (after : S → Line → Option S) (first : S) where
+  -- one line more leads to what it makes of the state
   pub replay_goes_on : ReplayGoesOn after first
   replay_goes_on lines line = replay-push after first lines line
 
+  -- the first lines of a sound journal are a sound journal
   pub a_first_part_is_sound : AFirstPartIsSound after first
   a_first_part_is_sound lines news sound = IsSoundFrom-first_part after 0 first lines news sound
 
+  -- a sound journal stays sound with a later line that changes its state
   pub a_sound_journal_grows : ASoundJournalGrows after first
   a_sound_journal_grows lines line next sound later changes =
       IsSoundFrom-push after 0 first lines line next sound later changes
 
+  -- the state at a ticket stays, whatever is entered at that ticket or later
   pub what_was_stays : WhatWasStays after first
   what_was_stays lines news ticket late = ap (replay after first) (below-append lines news ticket late)
 
+  -- past the last ticket stands what the whole journal leads to
   pub the_last_is_now : TheLastIsNow after first
   the_last_is_now lines ticket sound past = ap (replay after first) (below-all after 0 first lines ticket sound past)
 
+  -- the lines between two tickets lead from the state at the one to that at the other
   pub the_lines_between_lead_on : TheLinesBetweenLeadOn after first
   the_lines_between_lead_on lines ticket later sound order =
       ap (replay after first) (below-between after 0 first lines ticket later sound order)

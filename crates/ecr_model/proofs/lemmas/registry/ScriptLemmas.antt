@@ -6,6 +6,7 @@ use Rattle.ecr_model.specs.declared.registry.journal.Place.{Place}
 use Rattle.ecr_model.specs.registry.Scripts.{Ask, Told, Script, ends, turn, then_do, Realm, World, Turned, run, run_to, next_turn, entered, place_of, entry_count, count_changed, next_ticket}
 use Rattle.ecr_model.specs.laws.ScriptLaws.{RunsThen}
 
+-- the run of a script and then another is the one run and then the other
 pub run-then_do : {A B : Type 0} (realm : Realm) (world : World) (script : Script A) (next : A → Script B)
     → RunsThen realm world script next
 unfolding run then_do

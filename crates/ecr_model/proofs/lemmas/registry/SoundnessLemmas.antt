@@ -28,12 +28,14 @@ use Rattle.ecr_model.proofs.lemmas.registry.ScriptLemmas.{entry_count-place, ent
 
 -- ---- cells
 
+-- cells that compare as the same are equal
 pub same_cell-same : (a b : CellKey) → same_cell a b ≡ true → a ≡ b
 same_cell-same (Directory a) (Directory b) is = ap Directory (same_site-same a b is)
 same_cell-same (Directory a) (Repository k) is = absurd (cc)
 same_cell-same (Repository k) (Directory a) is = absurd (cc)
 same_cell-same (Repository k) (Repository l) is = ap Repository (same_key-same k l is)
 
+-- a cell compares as the same as itself
 pub same_cell-self : (a : CellKey) → same_cell a a ≡ true
 same_cell-self (Directory a) = same_site-self a
 same_cell-self (Repository k) = same_key-self k
@@ -151,6 +153,7 @@ past_from-push : (low : ℕ) (lines : List Line) (line : Line) → past_from low
 past_from-push low [] line = refl
 past_from-push low (l ∷ ls) line = past_from-push (suc l.ticket) ls line
 
+-- the next ticket doesn't fall by a turn
 pub past-after : (caller : ℕ) (lines : List Line) (entry : Option Entry)
     → past lines ≤ past (lines_after caller (past lines) lines entry)
 past-after caller lines None = omega arith
@@ -400,12 +403,14 @@ late-served first last (e ∷ es) served =
     (reached-served first served.0 e v)
     (late-served served.0 last es served.2)
 
+-- sound journals are sound after a session's requests too
 pub sessions_keep_journals_sound : SessionsKeepJournalsSound
 sessions_keep_journals_sound first last [] served sound =
     subst (λ (s : Standing). AreSound s.realm s.world.journals) (sym served) sound
 sessions_keep_journals_sound first last (e ∷ es) served sound =
     sessions_keep_journals_sound served.0 last es served.2 (sound-served first served.0 e served.1 sound)
 
+-- a session's places are above all tickets that stood in their cells before it
 pub places_are_fresh : PlacesAreFresh
 places_are_fresh first last es served sound =
     fresh-late first.realm first.world.journals (all_places (account_of es).places) sound

@@ -179,6 +179,7 @@ entry_count-few None = omega arith
 entry_count-few (Some entry) = omega arith
 
 module _ {A : Type 0} where
+  -- the run of a script over sound journals makes its turns in views of the whole journals
   pub runs_visit : RunsVisit A
   unfolding Visits run
   runs_visit realm world (ends a) sound = (refl, refl)
@@ -200,6 +201,7 @@ module _ {A : Type 0} where
             (runs_visit realm after (next turned.told) (sound-entered realm world cell ask sound))),
       )
 
+  -- a caller that is alone and sees whole journals makes the turns of the run
   pub visits_run : VisitsRun A
   unfolding Visits run
   visits_run realm world now (ends a) [] answer v = record { leaves = v.0; places_are = refl; answer_is = v.1 }
@@ -225,6 +227,7 @@ module _ {A : Type 0} where
         answer_is = run_is.answer_is;
       }
 
+  -- the first turns of a caller that is alone and sees whole journals are those of the run
   pub halts_run_to : HaltsRunTo A
   unfolding Halts run run_to
   halts_run_to realm world now (ends a) [] v = record { leaves = v; rest = []; places_are = refl }
@@ -257,6 +260,7 @@ module _ {A : Type 0} where
             ∙ ap (λ p. p ∷ (places_of ms ++ first.rest)) (sym is.place_is);
       }
 
+  -- a run up to so many entries makes the first turns of the script
   pub runs_to_halt : RunsToHalt A
   unfolding Halts run run_to
   runs_to_halt zero realm world (ends a) sound within = ([], refl, refl)

@@ -71,6 +71,7 @@ IsAhead-comes was now own comes late = record {
   onward = comes.onward;
 }
 
+-- a turn leaves a view that goes on from the one before
 pub IsAhead-visit : (terms : Terms) (was : Option View) (now : View) (cell : CellKey) (ask : Ask) (made : PlacedTurn)
     → Visit terms was now cell ask made → IsAhead was (Some now)
 IsAhead-visit terms was now cell ask made visit =
@@ -102,6 +103,7 @@ AreAhead-glances terms was cell now (inr g) k =
     (AreAhead-with_view was cell g.1.0 (IsAhead-comes (was cell) g.1.0 [] g.1.1 tt) k)
 
 module _ {A : Type 0} where
+  -- after the turns of a script each view goes on from the one before
   pub visits_go_on : VisitsGoOn A
   unfolding Visits
   visits_go_on terms was now (ends a) [] answer v k =
@@ -114,6 +116,7 @@ module _ {A : Type 0} where
       (AreAhead-with_view was cell v.0 (IsAhead-visit terms (was cell) v.0 cell ask m v.1) k)
       (visits_go_on terms (with_view was cell v.0) now (next told) ms answer v.2 k)
 
+  -- after the first turns of a script each view goes on from the one before
   pub halts_go_on : HaltsGoOn A
   unfolding Halts
   halts_go_on terms was now (ends a) [] v k =
@@ -152,6 +155,7 @@ turn_at-later realm (Repository key) lines news ticket sealed (call beside c) la
     (what_was_stays (steps.after_line key realm.limits) steps.first_state lines news ticket
     (all_of (λ l. ticket ≤ l.ticket) news late))
 
+-- a turn comes to the same over each journal that is seen later
 pub what_was_seen_stays : WhatWasSeenStays
 what_was_seen_stays realm cell ticket sealed ask was now ahead within =
     let f : Follows (past_of was) (seen_of was) (seen_of now) = ahead.follows in
@@ -175,6 +179,7 @@ module _ {A : Type 0} where
   ahead-after terms was now later script made answer v ahead k =
       IsAhead-trans (was k) (now k) (later k) (visits_go_on terms was now script made answer v k) (ahead k)
 
+  -- over all journals that are seen later a script has the same answer at its places
   pub answers_stay : AnswersStay A
   unfolding Visits answer_at
   answers_stay terms was now later (ends a) [] answer v ahead = ap Some (sym v.1)
@@ -262,6 +267,7 @@ own_of-visit terms was later at cell view ask made visit ahead =
     ∙ ap (λ n. own_of (was at) ++ lines_of n ticket entry) (sym number)))
 
 module _ {A : Type 0} where
+  -- a caller's own lines are those before, and then those that its script enters
   pub own_lines_are_entered : OwnLinesAreEntered A
   unfolding Visits entered_in
   own_lines_are_entered terms was now (ends a) [] answer v cell =
@@ -291,6 +297,7 @@ halts_here terms was (ends a) = refl
 halts_here terms was (turn cell ask told) = inl refl
 
 module _ {A B : Type 0} where
+  -- all turns of one script and then of another are the turns of both
   pub visits_then : VisitsThen A B
   unfolding Visits then_do
   visits_then terms was mid now (ends x) next [] more a b v w =
@@ -305,6 +312,7 @@ module _ {A B : Type 0} where
         (told (result_of terms.realm cell v.0.seen ask m).told) next ms more a b v.2 w,
   )
 
+  -- the turns of one script and then another are those of the one, and then those of the other
   pub visits_part : VisitsPart A B
   unfolding Visits then_do
   visits_part terms was now (ends x) next made b v =
@@ -324,6 +332,7 @@ module _ {A B : Type 0} where
         all = ap (λ ls. m ∷ ls) rest.all;
       }
 
+  -- the first turns of one script are first turns of it and then another
   pub halts_first : HaltsFirst A B
   unfolding Halts then_do
   halts_first terms was now (ends x) next [] v =
@@ -337,6 +346,7 @@ module _ {A B : Type 0} where
         (told (result_of terms.realm cell v.0.seen ask m).told) next ms v.2,
   )
 
+  -- all turns of one script and the first of the next are first turns of both
   pub halts_then : HaltsThen A B
   unfolding Visits Halts then_do
   halts_then terms was mid now (ends x) next [] more a v w =
@@ -352,6 +362,7 @@ module _ {A B : Type 0} where
   )
 
 module _ {A : Type 0} where
+  -- all turns of a script are its first turns too
   pub visits_halt : VisitsHalt A
   unfolding Visits Halts
   visits_halt terms was now (ends a) [] answer v = v.0
@@ -366,10 +377,12 @@ module _ {A : Type 0} where
 
 -- ---- places
 
+-- the places of two lists of turns joined are the places of both
 pub places_of-append : (made more : List PlacedTurn) → places_of (made ++ more) ≡ places_of made ++ places_of more
 places_of-append [] more = refl
 places_of-append (m ∷ ms) more = ap (λ ps. m.place ∷ ps) (places_of-append ms more)
 
+-- the turns made at places without a completed upload have these places
 pub places_of-unsealed : (places : List Place) → places_of (unsealed places) ≡ places
 places_of-unsealed [] = refl
 places_of-unsealed (p ∷ ps) = ap (λ qs. p ∷ qs) (places_of-unsealed ps)

@@ -9,6 +9,7 @@ use Rattle.ecr_model.specs.names.Sites.{IsSite, site_word, site_of}
 use Rattle.ecr_model.specs.sessions.Commands.{IsSession, clock_words}
 use Rattle.ecr_model.proofs.lemmas.names.SitesLemmas.{site_of-site_word}
 
+-- lists that are equal and not empty have equal first items and equal rests
 pub same_parts : {A : Type 0} (x y : A) (xs ys : List A) → x ∷ xs ≡ y ∷ ys → (x ≡ y) × (xs ≡ ys)
 same_parts x y xs ys e = (cc, cc)
 
@@ -53,6 +54,7 @@ same_tail words m n xs ys s t =
     (same_parts (codes "session") (codes "session") (clock_words m ++ map site_word xs)
     (clock_words n ++ map site_word ys) (sym s.words_are ∙ t.words_are)).1
 
+-- the words of a session say one fixed moment at most, and one list of sites
 pub IsSession-unique : (words : List (List ℕ)) (m n : Option ℕ) (xs ys : List SiteId) → IsSession words m xs
     → IsSession words n ys → (m ≡ n) × (xs ≡ ys)
 IsSession-unique words None None xs ys s t =

@@ -35,6 +35,7 @@ end_is ends.ReadFault ending size d x = absurd d
 end_is ends.WriteFault ending size d x = absurd d
 end_is ends.Mem ending size d x = absurd d
 
+-- the bytes read, the moments and the cuts decide what a session writes and leaves
 pub output_is_determined : OutputIsDetermined
 output_is_determined first last other exchanges others read over tail ending served again alike reads too =
     let same : (requests_of exchanges ≡ requests_of others) × (tail ≡ ending) =
@@ -145,6 +146,7 @@ Completed-reads_input set before after account left end input told done d =
     (requests_of done.exchanges) done.tail front.1 front.2 done.at_end done.reads
     (end_shows end done.tail.ending (length done.read) d done.ends)
 
+-- a session whose end an input decides ends as that input says
 pub the_input_decides_the_end : TheInputDecidesTheEnd
 the_input_decides_the_end set before after account left end input requests tail told done d reads =
     let mine : Reads input true (requests_of done.exchanges) done.tail =

@@ -48,6 +48,7 @@ IsTime-fixed None before after m moment is time = absurd (cc)
 IsTime-fixed (Some n) before after m moment is time =
     let same : Some n ≡ Some m = is in let at : moment ≡ n = time.0 in cc
 
+-- where no moment is fixed, the clock gave the moments of the exchanges
 pub the_clock_tells_the_moments : TheClockTellsTheMoments
 the_clock_tells_the_moments first last [] served none =
     subst (λ (s : Standing). Appends first.told s.told []) (sym served) (Appends-nil first.told)
@@ -58,6 +59,7 @@ the_clock_tells_the_moments first last (e ∷ es) served none =
     (IsTime-clock first.fixed first.told next.told e.moment none served.1.timed)
     (the_clock_tells_the_moments next last es served.2 still)
 
+-- where a moment is fixed, it is that of each exchange
 pub a_fixed_moment_is_each : AFixedMomentIsEach
 a_fixed_moment_is_each first last [] moment served fixed = refl
 a_fixed_moment_is_each first last (e ∷ es) moment served fixed =
@@ -109,6 +111,7 @@ left_by-same realm other world another d e r w m c q =
 heads_same : {A : Type 0} (x y : A) (xs ys : List A) → (x ∷ xs) ≡ (y ∷ ys) → (x ≡ y) × (xs ≡ ys)
 heads_same x y xs ys is = (cc, cc)
 
+-- the same requests at the same moments with the same cuts are answered alike and leave the same journals
 pub AreServed-same : (s t last other : Standing) (es fs : List Exchange)
     → s.realm ≡ t.realm → s.world ≡ t.world → AreServed s es last → AreServed t fs other
     → requests_of es ≡ requests_of fs → map (λ e. e.moment) es ≡ map (λ e. e.moment) fs
