@@ -14,7 +14,7 @@ unless_null value = if is_some (as_null value) then None else Some value
 abbrev pub there : List ℕ → Data → Option Data
 there name value = option_and_then unless_null (get name value)
 
--- what was read of a member that is there: `Wrong` where it has another type
+-- the reading of a member that is there: `Wrong` where it has another type
 abbrev pub of_type : {A : Type 0} → Option A → Field A
 of_type None = Wrong
 of_type (Some a) = Here a

@@ -22,13 +22,13 @@ passed_items depth ts = behind (converted of_items (items (value depth) (length 
 abbrev pub passed_members : ℕ → List Token → Option (List Token)
 passed_members depth ts = behind (converted (λ ms. of_members ms no_members) (members (value depth) (length ts) ts))
 
--- what is behind the items that began at `first` is what is behind those that are left
+-- the same tokens are behind the items that began at `first` and behind those that are left
 pub record PassesItems (depth : ℕ) (first left : List Token) : Type 0 where
   pub turns : ℕ
   pub enough : length left ≤ turns
   pub same : passed_items depth first ≡ behind (converted of_items (items (value depth) turns left))
 
--- what is behind the members that began at `first` is what is behind those that are left
+-- the same tokens are behind the members that began at `first` and behind those that are left
 pub record PassesMembers (depth : ℕ) (first left : List Token) : Type 0 where
   pub turns : ℕ
   pub found : Members

@@ -64,7 +64,7 @@ pub record ReadsMembers (names : List (List ℕ)) (depth : ℕ) (first left : Li
   pub same : read_members depth first ≡ converted (λ ms. of_members ms found) (members (value depth) turns left)
   pub thinly : HasThin names kept found
 
--- what was kept of what was read, with the same tokens behind it
+-- the kept part of a value that was read, with the same tokens behind it; nothing where nothing was read
 abbrev pub KeepsOf : {A : Type 0} → (A → A → Type 0) → Option (A × List Token) → Option A → List Token → Type 0
 KeepsOf agree None None rest = Unit {0}
 KeepsOf agree (Some p) (Some kept) rest = agree kept p.0 × (p.1 ≡ rest)
