@@ -54,25 +54,11 @@ returns-in-Ok-clause-fresh g c =
     let desk : DeskState = g.D.AnyDesk.seen c.args.desk.now in
     let last : DeskState = g.D.AnyDesk.seen c.run-end.new.desk in
     let set : SettingOf DeskState = record { realm = desk.realm; first = desk; fixed = c.args.mode.fixed } in
-    let before : Outside = record {
-      left = g.S.Source.left c.args.source.now;
-      held = g.K.Sink.held c.args.sink.now;
-      told = g.C.Clock.told c.args.clock.now;
-      read_faults = g.S.Source.faults c.args.source.now;
-      write_faults = g.K.Sink.faults c.args.sink.now;
-    } in
-    let after : Outside = record {
-      left = g.S.Source.left c.run-end.new.source;
-      held = g.K.Sink.held c.run-end.new.sink;
-      told = g.C.Clock.told c.run-end.new.clock;
-      read_faults = g.S.Source.faults c.run-end.new.source;
-      write_faults = g.K.Sink.faults c.run-end.new.sink;
-    } in
     let still = g.met.D.StillDesk.is_still c.args.desk.now in
     subst (λ (a : Account). AreFresh (still_of desk).world.journals (all_places a.places))
     (sym c.ended.ensures.account)
-    (Serves-fresh (still_setting set) before after (account_in c.run-end.new.self)
+    (Serves-fresh (still_setting set) _ _ (account_in c.run-end.new.self)
     (still_of last).world c.run-end.result
     (c.served-sites.ensures.sound (ap (λ (s : DeskState). s.alone) still))
-    (Serves-still set before after (account_in c.run-end.new.self) last c.run-end.result
+    (Serves-still set _ _ (account_in c.run-end.new.self) last c.run-end.result
     (record { realm_is = refl; still = still }) c.run-end.ensures.serves.serves))
