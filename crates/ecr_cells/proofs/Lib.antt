@@ -2,5 +2,8 @@ pub mod CrossingLemmas
 pub mod DirectoryLemmas
 pub mod RepositoryLemmas
 pub mod RunLemmas
+pub mod SharedDeskLemmas
+pub mod SharedTurnLemmas
+pub mod SharedViewLemmas
 pub mod SiteLemmas
 pub mod WorldLemmas

@@ -47,12 +47,12 @@ numbered-after lines (Some entry) numbered =
 bytes_eq-self : (a : List ℕ) → bytes_eq a a ≡ true
 bytes_eq-self a = (bytes_eq-Decides a a).1 refl
 
-name-same : (a b : Name) → is_eq (name_order a b) ≡ true → a ≡ b
+pub name-same : (a b : Name) → is_eq (name_order a b) ≡ true → a ≡ b
 name-same a b is =
     let same : a.text ≡ b.text = (bytes_eq-Decides a.text b.text).0 (sym (is_eq-name_order a b) ∙ is) in
     ap (λ t. record { text = t }) same
 
-name-self : (a : Name) → is_eq (name_order a a) ≡ true
+pub name-self : (a : Name) → is_eq (name_order a a) ≡ true
 name-self a = is_eq-name_order a a ∙ bytes_eq-self a.text
 
 -- ---- repositories

@@ -1,4 +1,5 @@
 pub mod Deeds
 pub mod Desks
+pub mod Shared
 pub mod SiteCells
 pub mod Turns

@@ -194,16 +194,16 @@ impl StillDesk for SoloDesk {
     ghost is_still = { λ desk. refl };
 }
 
-// The number with one more, where an entry was added.
-fn counted(made: u64, changed: bool) -> u64
+/// The number with one more, where an entry was added.
+pub(crate) fn counted(made: u64, changed: bool) -> u64
     requires { made + 1 < 2 ^ 64 }
     ensures { result ≡ made + (if changed then 1 else 0) }
 {
     if changed { made + 1 } else { made }
 }
 
-// The reply that the directory told.
-fn reply_of(alloc: Global, done: Done) -> SiteReply
+/// The reply that the directory told.
+pub(crate) fn reply_of(alloc: Global, done: Done) -> SiteReply
     ensures { result ≡ site_told (told_of done) }
 {
     match done {
@@ -225,8 +225,8 @@ fn no_names(alloc: Global) -> SiteReply
     }
 }
 
-// The reply that the repository told, with its content.
-fn outcome_of(alloc: Global, done: Done) -> Outcome
+/// The reply that the repository told, with its content.
+pub(crate) fn outcome_of(alloc: Global, done: Done) -> Outcome
     requires { HasContents done }
     ensures reply { plain result.reply ≡ reply_told (told_of done) }
     ensures contents { AreContents result.reply result.blobs.items }
@@ -240,8 +240,8 @@ fn outcome_of(alloc: Global, done: Done) -> Outcome
     }
 }
 
-// The refusal of a call that had no turn in the repository.
-fn refused(alloc: Global, refusal: Refusal) -> Outcome
+/// The refusal of a call that had no turn in the repository.
+pub(crate) fn refused(alloc: Global, refusal: Refusal) -> Outcome
     ensures reply { result.reply ≡ replies.Refused refusal }
     ensures contents { AreContents result.reply result.blobs.items }
 {
@@ -252,8 +252,8 @@ fn refused(alloc: Global, refusal: Refusal) -> Outcome
     }
 }
 
-// The answer with its one or two places.
-fn answer_of(
+/// The answer with its one or two places.
+pub(crate) fn answer_of(
     outcome: Outcome,
     mut places: Vec<Place>,
     first: Place,

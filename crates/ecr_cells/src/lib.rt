@@ -12,9 +12,12 @@ mod desk;
 mod directory;
 mod laws;
 mod repository;
+mod shared;
 mod site_cells;
 #[cfg(test)]
 mod tests;
 
 pub use desk::SoloDesk;
+pub use shared::desk::SharedDesk;
+pub use shared::pass::DeskPass;
 pub use laws::desks_cross_threads;

@@ -148,8 +148,8 @@ fn next_in(
     Ok((done, place))
 }
 
-// The place of a turn with that answer.
-fn placed(cell: CellKey, ticket: u64, done: &Done) -> Place
+/// The place of a turn with that answer.
+pub(crate) fn placed(cell: CellKey, ticket: u64, done: &Done) -> Place
     ensures { result ≡ record { cell = cell; ticket = ticket; changed = changes done.now } }
 {
     Place {

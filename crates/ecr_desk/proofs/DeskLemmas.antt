@@ -1,6 +1,6 @@
 -- What scripts come to on a desk: one and then another, and those of calls on a repository; and runs, where the caller is
 -- alone.
-use Rattle.std.proofs.Common.{◌≡◌, ◌≤◌, ◌+◌, ℕ, Bool, true, inl, inr, List, [], ◌∷◌, ◌++◌, length, Option, refl, sym, ap, ◌∙◌, subst, arith}
+use Rattle.std.proofs.Common.{◌≡◌, ◌≤◌, ◌+◌, ℕ, Bool, true, inl, inr, List, [], ◌∷◌, ◌++◌, length, Option, refl, sym, ap, ◌∙◌, subst, arith, length-append}
 use Rattle.ecr_model.specs.declared.requests.call.Call.{Call}
 use Rattle.ecr_model.specs.declared.registry.journal.CellKey.{CellKey}
 use Rattle.ecr_model.specs.declared.registry.journal.Place.{Place}
@@ -318,6 +318,33 @@ Stopped-call before mid after key c given moment told places ran same =
             (λ t. t) ran.turns told ran.visited,
       );
     })
+
+-- the turn in the directory was made, and not the next
+pub Stopped-second : (before mid after : DeskState) (key : RepoKey) (c : Call) (given : Option (List ℕ)) (moment : ℕ)
+    (told : Told) (places : List Place)
+    → Ran before mid (first_turn key c) told places → StoppedWithin 0 mid after (then_cell key c given moment told)
+    → StoppedWithin 1 before after (call_script key c given moment)
+unfolding call_script first_turn Stopped-then
+Stopped-second before mid after key c given moment told places ran stopped = record {
+  stopped = Stopped-then before mid after (first_turn key c) (then_cell key c given moment) told places ran
+      stopped.stopped;
+  few = omega (
+    arith,
+    length-append ran.turns stopped.stopped.turns,
+    stopped.few,
+    one_turn (terms_of before) before.views mid.views _ (first_ask key.name c)
+        (λ t. t) ran.turns told ran.visited,
+  );
+}
+
+-- not even the turn in the directory was made
+pub Stopped-at_first : (before after : DeskState) (key : RepoKey) (c : Call) (given : Option (List ℕ)) (moment : ℕ)
+    → StoppedWithin 0 before after (first_turn key c) → StoppedWithin 1 before after (call_script key c given moment)
+unfolding call_script Stopped-first
+Stopped-at_first before after key c given moment stopped = record {
+  stopped = Stopped-first before after (first_turn key c) (then_cell key c given moment) stopped.stopped;
+  few = omega (arith, stopped.few);
+}
 
 -- both turns were made
 pub Ran-call : (before mid after : DeskState) (key : RepoKey) (c : Call) (given : Option (List ℕ)) (moment : ℕ)

@@ -1,7 +1,9 @@
 -- What is seen of a desk, and what a call on it leaves. Of this registry: docs/DECISIONS.md, "Scripts" and "Views".
-use Rattle.std.specs.Prelude.{◌≡◌, ◌≤◌, ◌+◌, ℕ, Bool, true, List, ◌++◌, length}
+use Rattle.std.specs.Prelude.{◌≡◌, ◌≤◌, ◌+◌, ℕ, Bool, true, false, List, [], ◌++◌, length, Option}
+use Rattle.ecr_model.specs.declared.names.SiteId.{SiteId}
 use Rattle.ecr_model.specs.declared.registry.journal.Place.{Place}
 use Rattle.ecr_model.specs.registry.Scripts.{Realm, Parts, World, Script, Run, count_changed, run, run_to}
+use Rattle.ecr_turn.specs.Passes.{Gate}
 use Rattle.ecr_model.specs.registry.Views.{Views, Terms, PlacedTurn, journals_of, places_of, views_of, Visits, Halts}
 
 -- a desk as its caller sees it: the sites and limits, whether the caller is alone, its views of the cells, the parts of
@@ -16,6 +18,37 @@ pub record DeskState : Type 0 where
 -- the terms of its caller
 abbrev pub terms_of : DeskState → Terms
 terms_of desk = record { realm = desk.realm; alone = desk.alone }
+
+-- ---- one caller among many
+
+-- which desk it is: the turnstile of each served site's directory
+abbrev pub Gates : Type 0
+Gates = SiteId → Option Gate
+
+-- a desk of many callers: the sites and limits, and which one it is
+pub record SharedState : Type 0 where
+  pub realm : Realm
+  pub gates : Gates
+
+-- a caller's pass: the desk that it is of, its views of the cells, and how many entries it has added
+pub record PassState : Type 0 where
+  pub gates : Gates
+  pub views : Views
+  pub made : ℕ
+
+-- the pass is of this desk
+abbrev pub IsOf : SharedState → PassState → Type 0
+IsOf desk pass = pass.gates ≡ desk.gates
+
+-- the desk as the holder of that pass sees it: parts of uploads are seen by a caller alone
+abbrev pub seen_with : SharedState → PassState → DeskState
+seen_with desk pass = record {
+  realm = desk.realm;
+  alone = false;
+  views = pass.views;
+  parts = λ key number. [];
+  made = pass.made;
+}
 
 -- ---- a caller that is alone
 

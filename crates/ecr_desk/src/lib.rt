@@ -7,8 +7,12 @@
 
 mod answers;
 mod any;
+mod at_desk;
+mod desk;
 mod still;
 
 pub use answers::{Answer, SiteAnswer};
 pub use any::AnyDesk;
+pub use at_desk::AtDesk;
+pub use desk::{Desk, Seen};
 pub use still::StillDesk;

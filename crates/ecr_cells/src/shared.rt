@@ -1,0 +1,8 @@
+// The cells of many callers: each behind a turnstile of its own.
+
+pub(crate) mod desk;
+pub(crate) mod directory;
+pub(crate) mod door;
+pub(crate) mod pass;
+pub(crate) mod repository;
+pub(crate) mod site;
