@@ -163,7 +163,7 @@ pub(crate) fn fork<S: Journal, R: Wait>(
     (caller, other)
 }
 
-// TakesState another seat in, with what it has seen.
+// Takes another seat in, with what it has seen.
 pub(crate) fn absorb<S: Journal>(board: &Board<S>, seat: &mut Place<S>, other: Place<S>)
     requires one { IsOf board.now.shared.table_id seat.old × IsAtRest seat.old }
     requires two { IsOf board.now.shared.table_id other × IsAtRest other }

@@ -147,7 +147,7 @@ impl<S: Journal> Turnstile<S> {
         Ok(Pass { seat, caller })
     }
 
-    /// TakesState in what another pass has seen: the pass has then seen the longer of the two journals, and has the greater
+    /// Takes in what another pass has seen: the pass has then seen the longer of the two journals, and has the greater
     /// `past` and number of callers.
     pub fn join(&self, pass: &mut Pass<S>, other: Pass<S>)
         requires of { (pass.old.gate ≡ self.now) × (other.gate ≡ self.now) }

@@ -16,7 +16,7 @@ loop-site-preserved c =
     let served = c.args.sites.items in
     let i = c.loop-site.site-index in
     let site = c.site-item.result in
-    let items : c.as_slice-site-items.result.now ≡ served = c.as_slice-site-items.ensures ∙ c.from_vec-served.ensures in
+    let items : c.as_slice-site-items.result.now ≡ served = c.as_slice-site-items.ensures.items ∙ c.from_vec-served.ensures.items in
     let less : i < length served = subst (λ (xs : List SiteId). i < length xs) items c.loop-site-test.true in
     let is : site ≡ get_or served i site = c.site-item.is ∙ ap (λ xs. get_or xs i site) items in
     let more : take i served ++ site ∷ [] ≡ take (i + 1) served =
@@ -25,17 +25,17 @@ loop-site-preserved c =
     (AreOpen-opens served c.args.limits c.loop-site.gates.entries c.open.new.gates.entries
     c.loop-site.passes.entries c.open.new.passes.entries (take i served) site c.loop-site.invariant
     (subst (λ (xs : List SiteId). Opens c.loop-site.gates.entries c.open.new.gates.entries c.loop-site.passes.entries c.open.new.passes.entries
-    (record { site = site; served = xs; limits = c.args.limits })) c.from_vec-served.ensures c.in_ok-open.ensures))
+    (record { site = site; served = xs; limits = c.args.limits })) c.from_vec-served.ensures.items c.in_ok-open.ensures))
 
 pub invariant_of-desk : goal.invariant_of-desk
 invariant_of-desk c =
     let served = c.args.sites.items in
-    let items : c.as_slice-site-items.result.now ≡ served = c.as_slice-site-items.ensures ∙ c.from_vec-served.ensures in
+    let items : c.as_slice-site-items.result.now ≡ served = c.as_slice-site-items.ensures.items ∙ c.from_vec-served.ensures.items in
     let whole : take c.loop-site.site-index served ≡ served =
     take_all c.loop-site.site-index served
     (subst (λ (xs : List SiteId). length xs ≤ c.loop-site.site-index) items c.loop-site-test.false) in
     let are = c.loop-site.invariant in
-    subst (λ (xs : List SiteId). AreGates xs c.args.limits c.loop-site.gates.entries) (sym c.from_vec-served.ensures)
+    subst (λ (xs : List SiteId). AreGates xs c.args.limits c.loop-site.gates.entries) (sym c.from_vec-served.ensures.items)
     (AreGates-open served c.args.limits c.loop-site.gates.entries c.loop-site.passes.entries
     (subst (λ (xs : List SiteId). AreOpen served c.args.limits c.loop-site.gates.entries c.loop-site.passes.entries xs)
     whole are))

@@ -17,7 +17,7 @@ make-made-requires-clause-later g c =
     omega (
       arith,
       past-rises c.enter-turn.result.state.state.journal c.enter-turn.result.ticket c.enter-turn.ensures.below,
-      c.ticket-ticket.ensures,
+      c.ticket-ticket.ensures.ticket,
       ap (λ (r : RepositoryAt). past r.state.journal) c.change.ensures.value,
     )
 
@@ -32,7 +32,7 @@ returns-in_err-done-clause-err g c =
     c.ticket-ticket.result c.caller-caller.result c.enter-turn.result.state.state.journal
     c.change.result.now.state.journal c.make-made.new.self.state.journal None
     c.enter-turn.ensures.pass c.enter-turn.ensures.fresh c.enter-turn.ensures.grows c.enter-turn.ensures.below
-    c.ticket-ticket.ensures (ap (λ (r : RepositoryAt). r.state.journal) c.change.ensures.value)
+    c.ticket-ticket.ensures.ticket (ap (λ (r : RepositoryAt). r.state.journal) c.change.ensures.value)
     c.caller-caller.ensures.caller c.leave.ensures.pass c.leave.ensures.seen
     (ap (λ (r : RepositoryAt). r.state.journal) c.in_err-done.ensures.err))))
 
@@ -50,7 +50,7 @@ returns-clause-visited g c =
     c.ticket-ticket.result c.caller-caller.result c.enter-turn.result.state.state.journal s.state.journal
     c.make-made.new.self.state.journal (turn_in_repository s.state c.ticket-ticket.result (ask_of c.args.deed)).entry
     c.enter-turn.ensures.pass c.enter-turn.ensures.fresh c.enter-turn.ensures.grows c.enter-turn.ensures.below
-    c.ticket-ticket.ensures (ap (λ (r : RepositoryAt). r.state.journal) c.change.ensures.value)
+    c.ticket-ticket.ensures.ticket (ap (λ (r : RepositoryAt). r.state.journal) c.change.ensures.value)
     c.caller-caller.ensures.caller c.leave.ensures.pass c.leave.ensures.seen
     (ap (λ (x : State). x.journal) turn.left) in
     Visited-at (realm_of (frame_of_repository s)) (realm_of c.args.self.now.gate.frame) (view_of c.in-Some.pass)

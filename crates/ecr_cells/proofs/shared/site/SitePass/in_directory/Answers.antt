@@ -17,7 +17,7 @@ make-made-requires-clause-later g c =
     omega (
       arith,
       past-rises c.enter-turn.result.state.directory.journal c.enter-turn.result.ticket c.enter-turn.ensures.below,
-      c.ticket-ticket.ensures,
+      c.ticket-ticket.ensures.ticket,
       ap (λ (d : DirectoryAt). past d.directory.journal) c.change.ensures.value,
     )
 
@@ -33,7 +33,7 @@ returns-in_err-done-clause-err g c =
     c.ticket-ticket.result c.caller-caller.result c.enter-turn.result.state.directory.journal
     c.change.result.now.directory.journal c.make-made.new.self.directory.journal None
     c.enter-turn.ensures.pass c.enter-turn.ensures.fresh c.enter-turn.ensures.grows c.enter-turn.ensures.below
-    c.ticket-ticket.ensures (ap (λ (d : DirectoryAt). d.directory.journal) c.change.ensures.value)
+    c.ticket-ticket.ensures.ticket (ap (λ (d : DirectoryAt). d.directory.journal) c.change.ensures.value)
     c.caller-caller.ensures.caller c.leave.ensures.pass c.leave.ensures.seen
     (ap (λ (d : SiteJournal). d.journal) c.in_err-done.ensures.err))))
 
@@ -51,7 +51,7 @@ returns-clause-visited g c =
     c.ticket-ticket.result c.caller-caller.result c.enter-turn.result.state.directory.journal d.journal
     c.make-made.new.self.directory.journal (turn_in_directory d c.ticket-ticket.result (ask_of c.args.deed)).entry
     c.enter-turn.ensures.pass c.enter-turn.ensures.fresh c.enter-turn.ensures.grows c.enter-turn.ensures.below
-    c.ticket-ticket.ensures (ap (λ (x : DirectoryAt). x.directory.journal) c.change.ensures.value)
+    c.ticket-ticket.ensures.ticket (ap (λ (x : DirectoryAt). x.directory.journal) c.change.ensures.value)
     c.caller-caller.ensures.caller c.leave.ensures.pass c.leave.ensures.seen
     (ap (λ (x : SiteJournal). x.journal) turn.left) in
     Visited-at (realm_of (frame_of_directory (frame_of_journal d))) (realm_of c.args.turnstile.now.frame)
