@@ -2,6 +2,7 @@
 #![tactic(auto)]
 
 mod apis;
+mod desks;
 mod hands;
 mod manifests;
 mod policies;
@@ -11,16 +12,18 @@ mod turnstiles;
 
 use std::{env, io};
 
-const USAGE: &str = "ecr_bench policy | manifest | api | repo | turnstile";
+const USAGE: &str = "ecr_bench policy | manifest | api | repo | desk | turnstile";
 
 fn main(rt: HostRuntime) -> io::Result<()> {
     let words: Vec<String> = env::args(&rt)?.skip(1).collect(rt.alloc())?;
     let Some(word) = words.first() else {
         return println!(rt; "{USAGE}");
     };
+    // Two that may wait.
     if word.as_str() == "turnstile" {
-        // The only one that may wait.
         turnstiles::time(&rt, rt.alloc())
+    } else if word.as_str() == "desk" {
+        desks::time(&rt, rt.alloc())
     } else {
         run(&rt, word.as_str())
     }

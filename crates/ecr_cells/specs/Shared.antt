@@ -41,11 +41,11 @@ frame_of_repository r = record {
   limits = r.state.limits;
 }
 
--- those of a directory's journal
+-- the values that are fixed throughout a directory's journal
 abbrev pub frame_of_directory : SiteFrame → Frame
 frame_of_directory d = record { cell = Directory d.site; served = d.served; limits = d.limits }
 
--- those of the journal of the site's repository of that name
+-- the values that are fixed throughout the journal of the site's repository of that name
 abbrev pub frame_of_name : SiteFrame → Name → Frame
 frame_of_name d name = record {
   cell = Repository (key_at d.site name);

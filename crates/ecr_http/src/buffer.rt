@@ -13,7 +13,7 @@ use std::marker::Model;
 pub(crate) const PIECE: usize = 65_536;
 
 /// Bytes that come at the end and go at the front, seen as the list of those that are left. They stand in room that is
-/// written once when it is taken, and used again.
+/// zeroed when it grows, and used again.
 #[derive(Drop)]
 pub struct Buffer {
     room: Vec<u8>,
@@ -66,8 +66,7 @@ impl Buffer {
         self.start += count;
     }
 
-    /// Moves the first bytes to the end of `to`, `most` of them where there are so many. After an `Err` both are as
-    /// before.
+    /// Moves the first `most` bytes, or all where there are fewer, to the end of `to`. After an `Err` both are as before.
     pub fn move_to(&mut self, to: &mut Vec<u8>, most: usize) -> Result<(), Mem>
         ensures moved { OnOk result (to.new.items ≡ to.old.items ++ take most self.old) }
         ensures rest { OnOk result (self.new ≡ drop most self.old) }
@@ -79,7 +78,7 @@ impl Buffer {
         Ok(())
     }
 
-    /// Reads once from the source, at most `most` bytes, to where they stay until they go. The room for them is taken
+    /// Reads once from the source, at most `most` bytes, behind those that are left. The room for them is taken
     /// first: without memory nothing is read.
     pub fn fill<S: Source>(&mut self, source: &mut S, most: usize) -> Result<Got, Mem>
         requires some { 0 < most }

@@ -65,7 +65,7 @@ impl Intake {
         }
     }
 
-    // One step: what stands in the buffer is used, or one read. The stage that comes next; none where the body is whole.
+    // One step: what stands in the buffer is used, or more is read once. It gives the next stage; none where the body is whole.
     fn decode<S: Source>(
         &mut self,
         source: &mut S,
@@ -232,6 +232,7 @@ impl Intake {
         ensures later { S.faults source.old ≤ S.faults source.new }
         ensures cause { result ≡ Err Fault.ReadFault → S.faults source.old < S.faults source.new }
     {
+        // One more than the limit, for the LF of the last chunk's line.
         match find_end_within(self.buffer.as_slice(), scanned, MAX_TRAILERS + 1) {
             Some(end) => {
                 self.buffer.skip(end);

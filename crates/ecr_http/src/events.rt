@@ -11,7 +11,7 @@ pub enum Event {
     End,
     /// The source ended inside the request at this place.
     Truncated(u64),
-    /// What stands at this place is no request that is served.
+    /// What stands at this place is no request.
     Bad(u64),
     /// The section of what stands at this place has more bytes than the limit allows.
     TooLong {

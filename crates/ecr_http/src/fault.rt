@@ -17,7 +17,7 @@ pub enum Fault {
     Spent,
     /// There was no memory.
     Mem,
-    /// No request that is served stands there.
+    /// No request stands there.
     Bad,
     /// The section has more bytes than that limit allows.
     TooLong(Section, u64),

@@ -13,9 +13,10 @@ ghost use Rattle.ecr_http.specs.Bodies.{FitsLimit};
 use crate::fields::{first_says, has_close};
 use ecr_model::{Fields, Framing, Head, Request};
 
-/// The greatest length of a body, below `/v2/` and elsewhere (of this registry).
+/// The greatest length of a body below `/v2/` (of this registry).
 const MAX_BLOB_BODY: u64 = 536_870_912;
 
+/// The greatest length of any other body (of this registry).
 const MAX_BODY: u64 = 33_554_432;
 
 /// The most digits of a stated length (of this registry).
@@ -57,7 +58,7 @@ fn is_chunked(fields: &Fields) -> bool
         && fields.count_of(b"content-length") == 0
 }
 
-/// A request of HTTP/1.1 has exactly one Host (RFC 9112, section 3.2).
+/// Whether a request of HTTP/1.1 has exactly one Host (RFC 9112, section 3.2).
 fn has_its_host(head: &Head) -> bool
     ensures { result ≡ has_its_host head.now }
 {
@@ -72,7 +73,7 @@ pub(crate) fn waits(head: &Head) -> bool
     head.minor == 1 && first_says(&head.fields, b"expect", b"100-continue") && has_body(head)
 }
 
-/// Whether there is a body within the limit.
+/// Whether a body comes: a chunked one, or one of a stated length from 1 byte to the limit.
 fn has_body(head: &Head) -> bool
     ensures { result ≡ option_map_or (is_sent (max_body head.now.target)) (framing_of head.now) false }
 {

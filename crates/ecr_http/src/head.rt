@@ -56,7 +56,7 @@ pub(crate) fn find_end_within(bytes: &[u8], from: usize, limit: usize) -> Option
     None
 }
 
-// Where the first line ends that ends behind the first `from` bytes and within the first `to`.
+// The end of the first line that ends behind the first `from` bytes and within the first `to`.
 fn next_line(bytes: &[u8], from: usize, to: usize) -> Option<usize>
     requires { (from ≤ to) × (to ≤ length bytes.now) }
     ensures { IsNextLine bytes.now from to result }

@@ -24,7 +24,7 @@ impl Intake {
     ghost use Rattle.ecr_http.specs.Leads.{IsReady, IsRead};
     ghost use Rattle.ecr_http.specs.Reading.{Nexts};
 
-    /// Nothing was read.
+    /// An intake that has read nothing.
     pub(crate) fn new(alloc: Global) -> Intake
         ensures ready { IsReady result }
         ensures empty { point_of result false ≡ start [] }
@@ -178,7 +178,7 @@ fn tell<K: Sink>(head: &Head, sink: &mut K) -> Sent
     send(sink, continue_reply())
 }
 
-// The reply that a client waits for (RFC 9110, section 15.2.1).
+// The 100, for which a client waits (RFC 9110, section 15.2.1).
 fn continue_reply() -> &'static [u8]
     ensures { result.now ≡ continue_reply }
 {

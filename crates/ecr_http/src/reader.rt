@@ -11,9 +11,9 @@ use std::alloc::Global;
 use std::marker::Model;
 
 /// The requests of a source. Contracts see how far the stream of all its bytes was read: how many bytes were used, those
-/// that were read and not yet used, and whether nothing more comes.
+/// that were read and not yet used, and whether what follows doesn't count.
 ///
-/// A reader is used with one source, and no more after a request that closes the session or an event that is none.
+/// A reader is used with one source, and no more after a request that closes the session or an event that is no request.
 #[derive(Drop)]
 pub struct Reader {
     intake: Intake,

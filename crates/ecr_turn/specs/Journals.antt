@@ -1,4 +1,4 @@
--- Journals that are longer than others. Of this registry: docs/DEFINITIONS.md, "Turns".
+-- Journals that are longer than others. Of this registry: docs/DECISIONS.md, "Turns".
 use Rattle.std.specs.Prelude.{◌≡◌, ◌⊎◌, ℕ, ◌==◌, List, [], ◌∷◌, ◌++◌, filter}
 use Rattle.ecr_model.specs.declared.registry.journal.Line.{Line}
 use Rattle.ecr_model.specs.registry.Growth.{Each}

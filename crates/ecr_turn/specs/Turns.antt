@@ -60,7 +60,7 @@ abbrev pub is_found : Stage → Bool
 is_found (Found t ls) = true
 is_found _ = false
 
--- and the journal that it is to look at
+-- the journal that a pass which is found is to look at
 abbrev pub found_seen : Stage → List Line
 found_seen (Found t ls) = ls
 found_seen _ = []
@@ -92,7 +92,7 @@ abbrev pub joined_past : Stage → ℕ
 joined_past (Joined p ls) = p
 joined_past _ = 0
 
--- and what it had seen
+-- what the pass that was joined had seen
 abbrev pub joined_seen : Stage → List Line
 joined_seen (Joined p ls) = ls
 joined_seen _ = []

@@ -1,4 +1,4 @@
--- Journals that others make longer. Of this registry: docs/DEFINITIONS.md, "Turns".
+-- Journals that others make longer. Of this registry: docs/DECISIONS.md, "Turns".
 use Rattle.std.specs.Prelude.{◌≡◌, ◌≢◌, ℕ, suc, ◌≤◌, List, [], ◌∷◌, ◌++◌}
 use Rattle.ecr_model.specs.declared.registry.journal.Line.{Line}
 
