@@ -18,6 +18,6 @@ mod site_cells;
 mod tests;
 
 pub use desk::SoloDesk;
+pub use laws::{desks_cross_threads, shared_desks_cross_threads};
 pub use shared::desk::SharedDesk;
 pub use shared::pass::DeskPass;
-pub use laws::desks_cross_threads;
