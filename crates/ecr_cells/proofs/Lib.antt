@@ -6,4 +6,5 @@ pub mod SharedDeskLemmas
 pub mod SharedTurnLemmas
 pub mod SharedViewLemmas
 pub mod SiteLemmas
+pub mod SplitLemmas
 pub mod WorldLemmas

@@ -1,5 +1,5 @@
 -- The laws of a desk of many callers, as it is made.
-use Rattle.std.proofs.Common.{◌≡◌, ◌++◌, ◌∷◌, ℕ, Bool, true, false, List, [], Option, None, Some, IfSome, IsSome, All, option_map, cond, refl, sym, ap, ◌∙◌, subst}
+use Rattle.std.proofs.Common.{◌≡◌, ◌++◌, ◌∷◌, ℕ, Bool, true, false, List, [], Option, None, Some, IfSome, IsSome, option_map, cond, refl, sym, ap, ◌∙◌, subst}
 use Rattle.std.specs.BTreeMap.{is_at}
 use Rattle.std.specs.Option.{option_map_or}
 use Rattle.std.proofs.lemmas.Bool.{cond_both, cond-true}
@@ -10,10 +10,10 @@ use Rattle.ecr_model.specs.declared.registry.journal.Limits.{Limits}
 use Rattle.ecr_model.specs.declared.registry.journal.Line.{Line}
 use Rattle.ecr_model.specs.declared.names.SiteId.{SiteId}
 use Rattle.ecr_model.specs.names.Sites.{site_order}
-use Rattle.ecr_model.specs.registry.Views.{View, seen_of, past_of}
-use Rattle.ecr_turn.specs.Passes.{Gate, Known}
+use Rattle.ecr_model.specs.registry.Views.{seen_of, past_of}
+use Rattle.ecr_turn.specs.Passes.{Gate}
 use Rattle.ecr_cells.specs.SiteCells.{site_of_cell}
-use Rattle.ecr_cells.specs.Shared.{SiteKnown, AreGates, AreOpen, IsFresh, Opens, first_known, frame_of_directory, gate_at, gates_in, pass_of, passes_at, view_in, views_in}
+use Rattle.ecr_cells.specs.Shared.{SiteKnown, AreGates, AreOpen, IsFresh, Opens, first_known, frame_of_directory, gate_at, pass_of, passes_at, view_in}
 use Rattle.ecr_cells.proofs.WorldLemmas.{site-same, site-self}
 
 -- what holds of one site's turnstile, and of those before, holds of all
@@ -87,9 +87,10 @@ past_there cell o = past_of (option_map_or (λ (s : SiteKnown). view_in s cell) 
 at_first : (cell : CellKey) (p : SiteKnown) → p ≡ first_known p.directory.gate
     → (seen_of (view_in p cell) ≡ []) × (past_of (view_in p cell) ≡ 0)
 at_first (Directory s) p is = (ap (λ (k : SiteKnown). k.directory.seen) is, ap (λ (k : SiteKnown). k.directory.past) is)
-at_first (Repository key) p is =
-    (ap (λ (k : SiteKnown). seen_of (view_in k (Repository key))) is,
-    ap (λ (k : SiteKnown). past_of (view_in k (Repository key))) is)
+at_first (Repository key) p is = (
+  ap (λ (k : SiteKnown). seen_of (view_in k (Repository key))) is,
+  ap (λ (k : SiteKnown). past_of (view_in k (Repository key))) is,
+)
 
 unseen_there : (cell : CellKey) (o : Option SiteKnown) → IfSome o (λ p. p ≡ first_known p.directory.gate)
     → (seen_there cell o ≡ []) × (past_there cell o ≡ 0)

@@ -1,16 +1,15 @@
 -- What a turn of one caller among many leaves in its view of the cell.
-use Rattle.std.proofs.Common.{◌≡◌, ◌≢◌, ◌≤◌, ◌+◌, ℕ, suc, Bool, false, true, List, [], ◌∷◌, ◌++◌, Option, None, Some, is_some, inl, inr, refl, sym, ap, ◌∙◌, subst, arith, append-nil}
+use Rattle.std.proofs.Common.{◌≡◌, ◌≢◌, ◌≤◌, ◌+◌, ℕ, suc, Bool, List, [], ◌∷◌, ◌++◌, Option, None, Some, is_some, inl, inr, refl, sym, ap, ◌∙◌, subst, arith, append-nil}
 use Rattle.ecr_model.specs.declared.registry.journal.CellKey.{CellKey}
 use Rattle.ecr_model.specs.declared.registry.journal.CellKey.TheVariants.{Directory, Repository}
 use Rattle.ecr_model.specs.declared.registry.journal.Entry.{Entry}
-use Rattle.ecr_model.specs.declared.registry.journal.Frame.{Frame}
 use Rattle.ecr_model.specs.declared.registry.journal.Line.{Line}
 use Rattle.ecr_model.specs.declared.registry.journal.Place.{Place}
 use Rattle.ecr_model.specs.declared.names.SiteId.{SiteId}
 use Rattle.ecr_model.specs.registry.Growth.{Each, Rises, Grows}
 use Rattle.ecr_model.specs.registry.Journals.{past, past_from}
 use Rattle.ecr_model.specs.registry.Scripts.{Ask, Told, Realm, Turned, turn_at, lines_after}
-use Rattle.ecr_model.specs.registry.Views.{View, ExtendsView, Visit, lines_of, result_of, seen_of, past_of}
+use Rattle.ecr_model.specs.registry.Views.{View, ExtendsView, lines_of, result_of}
 use Rattle.ecr_model.proofs.lemmas.registry.GrowthLemmas.{Rises-higher, Rises-snoc}
 use Rattle.ecr_model.proofs.lemmas.registry.ViewLemmas.{turn_at-later}
 use Rattle.ecr_turn.specs.Journals.{MayFollow}
@@ -19,7 +18,7 @@ use Rattle.ecr_repo.specs.States.{State}
 use Rattle.ecr_site.specs.States.{SiteJournal, frame_of_journal}
 use Rattle.ecr_cells.specs.declared.deed.Done.{Done}
 use Rattle.ecr_cells.specs.Deeds.{told_of, changes}
-use Rattle.ecr_cells.specs.Shared.{Visited, made_at, view_of, among, realm_of, frame_of_directory}
+use Rattle.ecr_cells.specs.Shared.{Visited, made_at, view_of, realm_of, frame_of_directory}
 use Rattle.ecr_cells.specs.Turns.{turn_in_directory, turn_in_repository, IsDirectoryTurn, IsRepositoryTurn}
 
 -- ---- journals

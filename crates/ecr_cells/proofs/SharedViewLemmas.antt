@@ -1,8 +1,7 @@
 -- What turns leave in the views of one caller among many.
-use Rattle.std.proofs.Common.{◌≡◌, ◌≢◌, ◌≤◌, ◌+◌, ◌⊎◌, ℕ, Bool, false, true, List, [], ◌∷◌, ◌++◌, length, Option, None, Some, IfSome, IfOk, Result, Ok, Err, is_some, option_map, if◌then◌else◌, cond, inl, inr, refl, sym, ap, ◌∙◌, subst, arith, bytes_eq}
+use Rattle.std.proofs.Common.{◌≡◌, ◌≤◌, ◌+◌, ℕ, Bool, false, true, List, [], ◌∷◌, ◌++◌, Option, None, Some, IfSome, IfOk, Result, Ok, Err, option_map, if◌then◌else◌, cond, inl, inr, refl, sym, ap, ◌∙◌, subst, arith, bytes_eq}
 use Rattle.std.specs.BTreeMap.{is_at}
 use Rattle.std.specs.Option.{option_map_or}
-use Rattle.std.specs.Ordering.{is_eq}
 use Rattle.std.proofs.Math.Path.{fun_ext}
 use Rattle.std.proofs.lemmas.Bool.{and_from, both_ways, cond_both, cond-true}
 use Rattle.ecr_model.specs.declared.registry.journal.CellKey.{CellKey}
@@ -20,13 +19,13 @@ use Rattle.ecr_model.specs.declared.requests.call.Call.{Call}
 use Rattle.ecr_model.specs.declared.requests.call.SiteCall.{SiteCall}
 use Rattle.ecr_model.specs.requests.Requests.{beside_of, cell_turn, first_ask, first_turn, reply_told, site_script, site_told}
 use Rattle.ecr_model.specs.registry.Scripts.{Ask, Told, Script, Realm, call, ends, site_call, turn, same_cell, same_key, same_site}
-use Rattle.ecr_model.specs.registry.Views.{View, Views, Visit, Visits, ExtendsView, Glances, Halts, lines_of, result_of, with_view, seen_of, past_of}
+use Rattle.ecr_model.specs.registry.Views.{View, Visits, ExtendsView, Halts, lines_of, result_of, with_view}
 use Rattle.ecr_model.proofs.lemmas.registry.CellLemmas.{is_eq-name_order, same_site-self}
 use Rattle.ecr_model.proofs.lemmas.registry.SoundnessLemmas.{same_cell-same}
 use Rattle.ecr_turn.specs.Passes.{Gate, Known}
 use Rattle.ecr_desk.specs.Desks.{DeskState, IsStill, StoppedWithin}
 use Rattle.ecr_cells.specs.SiteCells.{site_of_cell}
-use Rattle.ecr_cells.specs.Shared.{Visited, AreDoors, AreGates, AreOfSite, Enters, Peers, Hangs, IsOpened, IsWay, LeadsInto, SiteKnown, DeskKnown, Passes, Looks, among, caller_state, door_at, door_view, frame_of_directory, frame_of_name, gate_at, gates_in, site_frame_of, made_at, passes_at, view_in, view_of, views_in}
+use Rattle.ecr_cells.specs.Shared.{Visited, AreDoors, AreGates, AreOfSite, Enters, Peers, Hangs, IsOpened, IsWay, LeadsInto, SiteKnown, DeskKnown, Passes, Looks, caller_state, door_at, door_view, frame_of_directory, frame_of_name, gate_at, gates_in, site_frame_of, made_at, passes_at, view_in, view_of, views_in}
 use Rattle.ecr_cells.proofs.RunLemmas.{MadeTurn}
 use Rattle.ecr_cells.proofs.SiteLemmas.{name-same, name-self}
 use Rattle.ecr_cells.proofs.WorldLemmas.{site-same, site-self}

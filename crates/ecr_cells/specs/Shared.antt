@@ -21,7 +21,7 @@ use Rattle.ecr_model.specs.requests.Requests.{key_at}
 use Rattle.ecr_turn.specs.Passes.{Gate, Known, first_pass}
 use Rattle.ecr_desk.specs.Desks.{DeskState, Gates, SharedState, PassState}
 use Rattle.ecr_repo.specs.States.{State}
-use Rattle.ecr_site.specs.States.{SiteJournal, frame_of_journal}
+use Rattle.ecr_site.specs.States.{SiteJournal}
 use Rattle.ecr_cells.specs.declared.deed.Done.{Done}
 use Rattle.ecr_cells.specs.Deeds.{refusal_of}
 use Rattle.ecr_cells.specs.SiteCells.{site_of_cell}

@@ -3,6 +3,7 @@
 pub(crate) mod desk;
 pub(crate) mod directory;
 pub(crate) mod door;
+pub(crate) mod doors;
 pub(crate) mod pass;
 pub(crate) mod repository;
 pub(crate) mod site;

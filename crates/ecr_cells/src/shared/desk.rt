@@ -1,5 +1,6 @@
 // The desk of many callers in memory.
-ghost use Rattle.std.specs.Prelude.{◌≡◌, ◌∷◌, [], None, Some, Contains, IfOk, OnOk, OnErr};
+ghost use Rattle.std.specs.Prelude.{◌≡◌, ◌∷◌, [], None, Some, Contains, IfOk, OnOk, OnErr, IsSome};
+ghost use Rattle.ecr_model.specs.declared.registry.journal.CellKey.{CellKey as Cell};
 ghost use Rattle.ecr_blob_upload.specs.Loads.{FitsCall, given};
 ghost use Rattle.ecr_model.specs.registry.Contents.{AreContents};
 ghost use Rattle.ecr_model.specs.requests.Requests as scripts;
@@ -7,7 +8,8 @@ ghost use Rattle.ecr_model.specs.requests.Requests.{plain};
 ghost use Rattle.ecr_desk.specs.Desks.{IsOf, Ran, StoppedWithin, seen_with};
 ghost use Rattle.ecr_cells.specs.Deeds.{told_of, refusal_of};
 ghost use Rattle.ecr_cells.specs.Desks.{places_made};
-ghost use Rattle.ecr_cells.specs.Shared.{AreGates, IsFresh, LeadsInto, Opens, frame_of_directory, gate_at, pass_of, shared_of};
+ghost use Rattle.ecr_cells.specs.Shared.{AreGates, IsFresh, LeadsInto, Opens, frame_of_directory, gate_at, pass_of, shared_of, views_in};
+ghost use Rattle.ecr_cells.specs.Splits.{IsSplitOff};
 
 use crate::cells::copy_of;
 use crate::deed::{Deed, Done, first_deed, refusal_of};
@@ -72,6 +74,40 @@ impl SharedDesk {
             sites: gates,
         };
         Ok((desk, DeskPass::new(passes)))
+    }
+
+    /// A pass for another caller, who begins with what this one has seen, and has added nothing.
+    pub fn split<W: Wait>(
+        &self,
+        rt: &W,
+        alloc: Global,
+        pass: &mut DeskPass,
+    ) -> Result<DeskPass, Mem>
+        requires of { IsOf (shared_of self.now) (pass_of pass.old) }
+        ensures kept { pass_of pass.new ≡ pass_of pass.old }
+        ensures of { IfOk result (λ p. IsOf (shared_of self.now) (pass_of p)) }
+        ensures seen { IfOk result
+            (λ p. (cell : Cell) → IsSplitOff (views_in pass.old.sites cell) (views_in p.sites cell)) }
+        ensures none_made { IfOk result (λ p. p.made ≡ 0) }
+    {
+        let sites = pass.sites(alloc)?;
+        let mut splits = BTreeMap::new(alloc);
+        for site in sites.as_slice() {
+            let turnstile = self.turnstile_of(site);
+            pass.split_site(turnstile, rt, alloc, site, &mut splits)?;
+        }
+        Ok(DeskPass::new(splits))
+    }
+
+    // The turnstile of a site's directory.
+    fn turnstile_of(&self, site: &SiteId) -> &Turnstile<SharedDirectory>
+        requires there { IsSome (gate_at self.now.sites site.now) }
+        ensures found { gate_at self.now.sites site.now ≡ Some result.now }
+    {
+        match self.sites.get(site) {
+            Some(turnstile) => turnstile,
+            None => unreachable!(),
+        }
     }
 
     // The turnstile of a served site's directory.
@@ -228,8 +264,14 @@ impl Desk for SharedDesk {
     ) -> Result<SiteAnswer, Mem> {
         let copy = copy_of(site)?;
         let turnstile = self.directory_of(site);
-        let (done, place, _) =
-            pass.in_directory(turnstile, rt, alloc, copy, Deed::OnSite(call), None)?;
+        let (done, place, _) = pass.in_directory(
+            turnstile,
+            rt,
+            alloc,
+            copy,
+            Deed::OnSite(call),
+            None,
+        )?;
         let reply = reply_of(alloc, done);
         Ok(SiteAnswer { reply, place })
     }
@@ -247,8 +289,9 @@ impl Desk for SharedDesk {
         // No memory is taken for the answer once a turn was made.
         let places = Vec::with_capacity(alloc, 2)?;
         let (told, first, door) = self.first_turn(rt, alloc, pass, key, &call)?;
-        let (outcome, second) =
-            self.then_cell(rt, alloc, pass, key, call, load, moment, told, door)?;
+        let (outcome, second) = self.then_cell(
+            rt, alloc, pass, key, call, load, moment, told, door,
+        )?;
         Ok(answer_of(outcome, places, first, second))
     }
 

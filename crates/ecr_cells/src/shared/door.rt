@@ -1,5 +1,5 @@
 // A repository's turnstile with a pass to it.
-ghost use Rattle.std.specs.Prelude.{◌≡◌, [], Some, IfOk, OnErr};
+ghost use Rattle.std.specs.Prelude.{◌≡◌, ◌≢◌, [], Some, IfOk, OnErr};
 ghost use Rattle.ecr_model.specs.declared.registry.journal.CellKey.TheVariants.{Repository};
 ghost use Rattle.ecr_model.specs.registry.Views.{ExtendsView};
 ghost use Rattle.ecr_turn.specs.Passes.{IsAsWise};
@@ -56,6 +56,7 @@ impl Door {
     pub(crate) fn another<W: Wait>(&mut self, rt: &W) -> Result<Door, Mem>
         ensures kept { self.new ≡ record self.old { callers = self.new.callers } }
         ensures given { IfOk result (λ d. IsAsWise self.old d) }
+        ensures new { IfOk result (λ d. d.caller ≢ self.old.caller) }
     {
         let turnstile = Arc::try_clone(&self.turnstile)?;
         match &mut self.pass {

@@ -1,12 +1,15 @@
 // A caller's passes at all sites.
-ghost use Rattle.std.specs.Prelude.{◌≡◌, ◌∷◌, ◌+◌, ◌<◌, ◌^◌, [], None, Some, IfOk, OnErr, IfSome};
+ghost use Rattle.std.specs.Prelude.{◌≡◌, ◌∷◌, ◌+◌, ◌<◌, ◌^◌, [], None, Some, IfOk, OnOk, OnErr, IfSome, IsSome, All};
+ghost use Rattle.std.specs.Map.{keys_of};
 ghost use Rattle.ecr_model.specs.declared.registry.journal.CellKey.TheVariants.{Directory, Repository};
 ghost use Rattle.ecr_model.specs.registry.Scripts.{turn, ends};
 ghost use Rattle.ecr_turn.specs.Passes.{Gate};
 ghost use Rattle.ecr_desk.specs.Desks.{Ran};
 ghost use Rattle.ecr_cells.specs.Deeds.{ask_of, told_of, refusal_of, FitsDeed, HasContents};
-ghost use Rattle.ecr_cells.specs.Shared.{Looks, LeadsInto, caller_state, gates_in, realm_of, site_frame_of};
+ghost use Rattle.ecr_cells.specs.Shared.{Looks, LeadsInto, caller_state, gates_in, pass_of, passes_at, realm_of, site_frame_of};
+ghost use Rattle.ecr_cells.specs.Splits.{SplitsSite};
 
+use crate::cells::copy_of;
 use crate::deed::{Deed, Done};
 use crate::desk::counted;
 use crate::shared::directory::SharedDirectory;
@@ -53,6 +56,42 @@ impl DeskPass {
         DeskPass { sites, made: 0 }
     }
 
+    /// The sites at which it has passes.
+    pub(crate) fn sites(&self, alloc: Global) -> Result<Vec<SiteId>, Mem>
+        ensures sites { IfOk result (λ sites. sites.items ≡ keys_of self.now.sites) }
+        ensures found { IfOk result (λ sites. All (λ site. IsSome (passes_at self.now.sites site)) sites.items) }
+    {
+        let mut sites = Vec::new(alloc);
+        for site in self.sites.keys() {
+            sites.push(copy_of(site)?)?;
+        }
+        Ok(sites)
+    }
+
+    /// Adds another caller's passes at that site to `splits`, who begins with what this one has seen.
+    pub(crate) fn split_site<W: Wait>(
+        &mut self,
+        turnstile: &Turnstile<SharedDirectory>,
+        rt: &W,
+        alloc: Global,
+        site: &SiteId,
+        splits: &mut Passes,
+    ) -> Result<(), Mem>
+        requires of { gates_in self.old.sites site.now ≡ Some turnstile.now }
+        ensures kept { pass_of self.new ≡ pass_of self.old }
+        ensures split { OnOk result (SplitsSite (pass_of self.old) splits.old.entries splits.new.entries site.now) }
+    {
+        let copy = copy_of(site)?;
+        match self.sites.get_mut(site) {
+            Some(passes) => {
+                let other = passes.split(turnstile, rt, alloc)?;
+                splits.insert(copy, other)?;
+                Ok(())
+            }
+            None => unreachable!(),
+        }
+    }
+
     /// How many entries the caller has added.
     pub(crate) fn made(&self) -> u64
         ensures { result ≡ self.now.made }
@@ -90,8 +129,9 @@ impl DeskPass {
         }
         match self.sites.get_mut(&site) {
             Some(passes) => {
-                let (done, place, door) =
-                    passes.in_directory(turnstile, rt, alloc, site, deed, key)?;
+                let (done, place, door) = passes.in_directory(
+                    turnstile, rt, alloc, site, deed, key,
+                )?;
                 self.made = counted(self.made, place.changed);
                 Ok((done, place, door))
             }

@@ -4,12 +4,14 @@ ghost use Rattle.ecr_model.specs.declared.registry.journal.CellKey.TheVariants.{
 ghost use Rattle.ecr_model.specs.registry.Views.{ExtendsView};
 ghost use Rattle.ecr_cells.specs.Deeds.{ask_of, told_of, refusal_of, FitsDeed, HasContents};
 ghost use Rattle.ecr_cells.specs.SiteCells.{site_of_cell};
+ghost use Rattle.ecr_cells.specs.Splits.{IsSplitSite, SiteStays};
 ghost use Rattle.ecr_cells.specs.Shared.{IsOpened, IsWay, Visited, Enters, Peers, door_at, lacking, frame_of_name, site_frame_of, realm_of, view_of};
 
 use crate::deed::{Deed, Done};
 use crate::repository::copy_of_name;
 use crate::shared::directory::{SharedDirectory, hang};
 use crate::shared::door::Door;
+use crate::shared::doors::split_doors;
 use crate::site_cells::placed;
 use ecr_model::{CellKey, Mem, Name, Place, RepoKey, SiteId};
 use ecr_turn::{Pass, Turnstile};
@@ -46,6 +48,30 @@ impl SitePass {
         SitePass {
             pass: Some(pass),
             doors: BTreeMap::new(alloc),
+        }
+    }
+
+    /// What another caller has of the site, who begins with what this one has seen.
+    pub(crate) fn split<W: Wait>(
+        &mut self,
+        turnstile: &Turnstile<SharedDirectory>,
+        rt: &W,
+        alloc: Global,
+    ) -> Result<SitePass, Mem>
+        requires of { self.old.directory.gate ≡ turnstile.now }
+        ensures kept { SiteStays self.old self.new }
+        ensures split { IfOk result (λ other. IsSplitSite self.old other) }
+    {
+        let doors = split_doors(&mut self.doors, rt, alloc)?;
+        match &mut self.pass {
+            Some(pass) => {
+                let other = turnstile.split(rt, pass)?;
+                Ok(SitePass {
+                    pass: Some(other),
+                    doors,
+                })
+            }
+            None => unreachable!(),
         }
     }
 
@@ -103,9 +129,7 @@ impl SitePass {
         let caller = pass.caller();
         let mut turn = turnstile.enter(rt, pass);
         let ticket = turn.ticket();
-        let made = turn
-            .change()
-            .make(rt, alloc, ticket, caller, deed, wanted);
+        let made = turn.change().make(rt, alloc, ticket, caller, deed, wanted);
         self.pass = Some(turn.leave());
         let (done, door) = made?;
         let place = placed(CellKey::Directory(site), ticket, &done);

@@ -5,11 +5,10 @@ use Rattle.ecr_model.specs.declared.registry.journal.Frame.{Frame}
 use Rattle.ecr_model.specs.declared.names.RepoKey.{RepoKey}
 use Rattle.ecr_model.specs.registry.Scripts.{Realm, call}
 use Rattle.ecr_model.specs.requests.Requests.{Decided, beside_of, cell_turn}
-use Rattle.ecr_turn.specs.Passes.{Gate}
 use Rattle.ecr_desk.specs.Desks.{Gates, Ran, seen_with}
 use Rattle.ecr_desk.proofs.DeskLemmas.{StoppedWithin-none}
 use Rattle.ecr_cells.specs.Deeds.{told_of}
-use Rattle.ecr_cells.specs.Shared.{Looks, SiteKnown, caller_state, frame_of_directory, gate_at, gates_in, pass_of, realm_of, shared_of}
+use Rattle.ecr_cells.specs.Shared.{Looks, SiteKnown, caller_state, frame_of_directory, gates_in, pass_of, realm_of, shared_of}
 use Rattle.ecr_cells.proofs.RunLemmas.{MadeTurn, Ran-cell_turn}
 use Rattle.ecr_cells.proofs.SharedViewLemmas.{StoppedWithin-cell_turn, realm_of-gate}
 use Rattle.ecr_cells.proofs.WorldLemmas.{on_err_any}

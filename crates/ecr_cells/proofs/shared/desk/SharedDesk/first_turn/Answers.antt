@@ -1,10 +1,10 @@
-use Rattle.std.proofs.Common.{◌≡◌, ◌∷◌, [], Some, refl, sym, ap, ◌∙◌, subst}
+use Rattle.std.proofs.Common.{◌≡◌, ◌∷◌, [], refl, ap, ◌∙◌, subst}
 use Rattle.std.proofs.lemmas.Result.{IfOk-weaker, on_err_weaker}
 use Rattle.ecr_model.specs.declared.registry.journal.CellKey.TheVariants.{Directory}
 use Rattle.ecr_model.specs.declared.names.Name.{Name}
 use Rattle.ecr_model.specs.registry.Scripts.{Realm}
 use Rattle.ecr_model.specs.requests.Requests.{first_ask, first_turn}
-use Rattle.ecr_desk.specs.Desks.{Gates, Ran, StoppedWithin, seen_with}
+use Rattle.ecr_desk.specs.Desks.{Gates, Ran, seen_with}
 use Rattle.ecr_desk.proofs.DeskLemmas.{StoppedWithin-none}
 use Rattle.ecr_cells.specs.Deeds.{ask_of, told_of}
 use Rattle.ecr_cells.specs.Shared.{Looks, caller_state, gate_at, pass_of, realm_of, shared_of}

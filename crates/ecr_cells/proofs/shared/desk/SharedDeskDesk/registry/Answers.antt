@@ -1,4 +1,4 @@
-use Rattle.std.proofs.Common.{◌≡◌, [], ◌∷◌, Some, refl, sym, ap, ◌∙◌, subst}
+use Rattle.std.proofs.Common.{[], ◌∷◌, refl, sym, ap, ◌∙◌, subst}
 use Rattle.ecr_model.specs.declared.registry.journal.CellKey.TheVariants.{Directory}
 use Rattle.ecr_model.specs.declared.requests.reply.SiteReply.{SiteReply}
 use Rattle.ecr_model.specs.registry.Scripts.{Realm, site_call}

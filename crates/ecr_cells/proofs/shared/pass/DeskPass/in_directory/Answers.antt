@@ -1,4 +1,4 @@
-use Rattle.std.proofs.Common.{◌≡◌, [], ◌∷◌, Option, None, Some, is_some, option_map, refl, sym, ap, ◌∙◌, subst}
+use Rattle.std.proofs.Common.{◌≡◌, [], Option, None, Some, is_some, option_map, refl, sym, ap, ◌∙◌, subst}
 use Rattle.std.specs.Option.{option_map_or}
 use Rattle.ecr_model.specs.declared.registry.journal.CellKey.TheVariants.{Directory}
 use Rattle.ecr_model.specs.declared.names.SiteId.{SiteId}

@@ -1,7 +1,6 @@
-use Rattle.std.proofs.Common.{◌≡◌, [], ◌∷◌, Option, None, Some, is_some, option_map, refl, sym, ap, ◌∙◌, subst, ⊎_elim}
+use Rattle.std.proofs.Common.{◌≡◌, [], Option, None, Some, is_some, option_map, refl, sym, ap, ◌∙◌, subst, ⊎_elim}
 use Rattle.std.specs.Option.{option_map_or}
 use Rattle.ecr_model.specs.declared.registry.journal.CellKey.TheVariants.{Repository}
-use Rattle.ecr_model.specs.registry.Scripts.{Realm}
 use Rattle.ecr_model.specs.registry.Views.{View, ExtendsView}
 use Rattle.ecr_turn.specs.Passes.{Gate, Known}
 use Rattle.ecr_cells.specs.Deeds.{ask_of, told_of}

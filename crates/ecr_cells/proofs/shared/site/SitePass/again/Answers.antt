@@ -19,10 +19,11 @@ invariant_of-self g c =
     ((c.get_mut.follows.holds c.make.new.self).3 (ap is_some found)).0 in
     let frame : c.in-Some.door.now.gate.frame ≡ frame_of_name site name =
     subst (λ (o : Option Known). IfSome o (λ d. d.gate.frame ≡ frame_of_name site name)) found
-    (c.self.invariant.1 name) in
-    (c.self.invariant.0,
-    AreOfSite-hangs site s.doors.entries news name c.make.new.self c.self.invariant.1
-    (ap (λ (x : Gate). x.frame) c.make.ensures.gate ∙ frame) hangs)
+    (c.self.invariant.1 name) in (
+      c.self.invariant.0,
+      AreOfSite-hangs site s.doors.entries news name c.make.new.self c.self.invariant.1
+          (ap (λ (x : Gate). x.frame) c.make.ensures.gate ∙ frame) hangs,
+    )
 
 pub returns-clause-entered : goal.returns-clause-entered
 returns-clause-entered g c =

@@ -3,7 +3,7 @@ use Rattle.ecr_model.specs.declared.registry.journal.CellKey.TheVariants.{Direct
 use Rattle.ecr_model.specs.declared.registry.journal.Frame.{Frame}
 use Rattle.ecr_model.specs.registry.Journals.{past}
 use Rattle.ecr_model.specs.registry.Views.{ExtendsView}
-use Rattle.ecr_turn.specs.Passes.{Gate, Known, known_in}
+use Rattle.ecr_turn.specs.Passes.{Known, known_in}
 use Rattle.ecr_site.specs.States.{SiteJournal, frame_of_journal}
 use Rattle.ecr_cells.specs.Deeds.{ask_of, changes, told_of}
 use Rattle.ecr_cells.specs.Shared.{DirectoryAt, SiteKnown, frame_of_directory, realm_of, view_of}

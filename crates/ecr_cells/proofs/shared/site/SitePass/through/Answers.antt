@@ -1,4 +1,4 @@
-use Rattle.std.proofs.Common.{◌≡◌, Option, None, Some, IsSome, inr, refl, sym, ap, ◌∙◌, subst}
+use Rattle.std.proofs.Common.{◌≡◌, Option, None, IsSome, inr, refl, sym, ap, ◌∙◌, subst}
 use Rattle.std.proofs.lemmas.Result.{IfOk-weaker, on_err_weaker}
 use Rattle.ecr_model.specs.declared.names.Name.{Name}
 use Rattle.ecr_turn.specs.Passes.{Known, known_in}
@@ -13,11 +13,12 @@ invariant_of-self-2 g c =
     let site = site_frame_of (known_in s.pass).gate.frame in
     let hung : Hangs s.doors.entries c.hang.new.doors.entries c.args.key.name c.args.door =
     subst (λ (n : Name). Hangs s.doors.entries c.hang.new.doors.entries n c.args.door) c.in_ok-name.ensures
-    c.in_ok-hang.ensures.hung in
-    (c.self.invariant.0,
-    AreOfSite-hangs site s.doors.entries c.hang.new.doors.entries c.args.key.name c.args.door c.self.invariant.1
-    (subst (λ (k : SiteKnown). c.args.door.gate.frame ≡ frame_of_name (site_frame_of k.directory.gate.frame) c.args.key.name)
-    (sym c.self.view_is) c.requires.opened.frame_is) hung)
+    c.in_ok-hang.ensures.hung in (
+      c.self.invariant.0,
+      AreOfSite-hangs site s.doors.entries c.hang.new.doors.entries c.args.key.name c.args.door c.self.invariant.1
+          (subst (λ (k : SiteKnown). c.args.door.gate.frame ≡ frame_of_name (site_frame_of k.directory.gate.frame) c.args.key.name)
+          (sym c.self.view_is) c.requires.opened.frame_is) hung,
+    )
 
 pub again-requires-clause-there : goal.again-requires-clause-there
 again-requires-clause-there g c =
