@@ -68,12 +68,7 @@ fn call_of(turn: u64) -> Call {
     }
 }
 
-fn call_once<D: AnyDesk>(
-    alloc: Global,
-    desk: &mut D,
-    name: &Name,
-    call: Call,
-) -> Result<(), Mem> {
+fn call_once<D: AnyDesk>(alloc: Global, desk: &mut D, name: &Name, call: Call) -> Result<(), Mem> {
     let Some(site) = first_site(desk)? else {
         return Ok(());
     };

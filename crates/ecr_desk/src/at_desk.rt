@@ -31,7 +31,11 @@ impl<'a, W: Wait, D: Desk> AtDesk<'a, W, D> {
     pub fn into_pass(self) -> D::Pass
         ensures { result ≡ self.entry.pass }
     {
-        let AtDesk { rt: _, desk: _, pass } = self;
+        let AtDesk {
+            rt: _,
+            desk: _,
+            pass,
+        } = self;
         pass
     }
 }
@@ -45,7 +49,8 @@ impl<'a, W: Wait, D: Desk> AnyDesk for AtDesk<'a, W, D> {
         site: &SiteId,
         call: SiteCall,
     ) -> Result<SiteAnswer, Mem> {
-        self.desk.registry(self.rt, alloc, &mut self.pass, site, call)
+        self.desk
+            .registry(self.rt, alloc, &mut self.pass, site, call)
     }
 
     fn call(
@@ -56,7 +61,8 @@ impl<'a, W: Wait, D: Desk> AnyDesk for AtDesk<'a, W, D> {
         load: Load,
         moment: Moment,
     ) -> Result<Answer, Mem> {
-        self.desk.call(self.rt, alloc, &mut self.pass, key, call, load, moment)
+        self.desk
+            .call(self.rt, alloc, &mut self.pass, key, call, load, moment)
     }
 
     fn made(&self) -> u64 {
