@@ -29,7 +29,7 @@ impl<'a, W: Wait, D: Desk> AtDesk<'a, W, D> {
 
     /// Its pass.
     pub fn into_pass(self) -> D::Pass
-        ensures { result ≡ self.entry.pass }
+        ensures pass { result ≡ self.entry.pass }
     {
         let AtDesk {
             rt: _,
