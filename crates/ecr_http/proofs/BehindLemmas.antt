@@ -19,10 +19,10 @@ use Rattle.ecr_model.proofs.lemmas.http.FrontLemmas.{Parses-append, IsBody-lengt
 use Rattle.ecr_model.proofs.lemmas.http.StreamLemmas.{blank_length-append}
 use Rattle.ecr_http.specs.Bodies.{FitsLimit, HasBody, LacksBody}
 use Rattle.ecr_http.specs.Events.{point_of, HasHead, Behind, TakesRequest}
-use Rattle.ecr_http.specs.Leads.{IsReady, IsRead}
+use Rattle.ecr_http.specs.NextHeads.{IsReady, IsRead}
 use Rattle.ecr_http.specs.declared.intake.Intake.{Intake}
 use Rattle.ecr_http.proofs.BodyLemmas.{rest_of}
-use Rattle.ecr_http.proofs.LeadLemmas.{HasNoEnd-zero, drop-drop}
+use Rattle.ecr_http.proofs.NextHeadLemmas.{HasNoEnd-zero, drop-drop}
 use Rattle.ecr_http.specs.declared.fault.Fault.{Fault}
 use Rattle.ecr_http.proofs.FaultLemmas.{IsFault-weaker}
 use Rattle.ecr_http.proofs.SettledLemmas.{Settled, Settled-read, AwaitsBody-head, MayTell-due}

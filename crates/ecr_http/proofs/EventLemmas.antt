@@ -13,7 +13,7 @@ use Rattle.ecr_model.specs.http.Stream.{blank_length, bad, too_long, open_, whol
 use Rattle.ecr_model.proofs.lemmas.http.FrontLemmas.{IsFront-nil, IsFront-unique}
 use Rattle.ecr_model.proofs.lemmas.http.StreamLemmas.{blank_length-le}
 use Rattle.ecr_http.specs.Events.{closes_after, point_of, Fronts, Behind, event_of, TakesRequest}
-use Rattle.ecr_http.specs.Leads.{IsReady, IsRead, LacksRequest}
+use Rattle.ecr_http.specs.NextHeads.{IsReady, IsRead, LacksRequest}
 use Rattle.ecr_http.specs.Sends.{Sends}
 use Rattle.ecr_http.specs.declared.write.Sent.TheVariants.{WriteFault}
 use Rattle.ecr_http.specs.Reading.{MayTell, bytes_read, GivesEvent, HasReadsLeft}

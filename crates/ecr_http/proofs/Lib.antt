@@ -4,7 +4,7 @@ pub mod DigitsLemmas
 pub mod SendLemmas
 pub mod ReplyLemmas
 pub mod FaultLemmas
-pub mod LeadLemmas
+pub mod NextHeadLemmas
 pub mod BodyLemmas
 pub mod BufferLemmas
 pub mod DecodingLemmas

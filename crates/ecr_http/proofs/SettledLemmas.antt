@@ -8,10 +8,10 @@ use Rattle.ecr_model.specs.http.Replies.{interim}
 use Rattle.ecr_model.specs.http.Stream.{blank_length, Front, IsFront, Point, grown, past_blank, Meets, AwaitsBody, past_request, closes, Tail, Lacks, tail_of}
 use Rattle.ecr_model.proofs.lemmas.http.StreamLemmas.{blank_length-le, blank_length-drop}
 use Rattle.ecr_http.specs.Events.{point_of}
-use Rattle.ecr_http.specs.Leads.{IsRead}
+use Rattle.ecr_http.specs.NextHeads.{IsRead}
 use Rattle.ecr_http.specs.Reading.{MayTell}
 use Rattle.ecr_http.specs.declared.intake.Intake.{Intake}
-use Rattle.ecr_http.proofs.LeadLemmas.{blank_length-grows}
+use Rattle.ecr_http.proofs.NextHeadLemmas.{blank_length-grows}
 
 -- past the blank bytes the point stands at this place, before these bytes
 pub record Settled (p : Point) (at : ℕ) (bytes : List ℕ) : Type 0 where

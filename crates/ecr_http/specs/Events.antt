@@ -7,7 +7,7 @@ use Rattle.ecr_model.specs.declared.http.Request.{Request}
 use Rattle.ecr_model.specs.http.Framing.{max_head, max_body, IsEnd, Parses, framing_of}
 use Rattle.ecr_model.specs.sessions.Sessions.{max_read, is_waiting}
 use Rattle.ecr_model.specs.http.Stream.{Point, whole, IsFront, closes}
-use Rattle.ecr_http.specs.Leads.{IsReady, LacksRequest}
+use Rattle.ecr_http.specs.NextHeads.{IsReady, LacksRequest}
 use Rattle.ecr_http.specs.Reading.{Nexts}
 use Rattle.ecr_http.specs.declared.intake.Intake.{Intake}
 use Rattle.ecr_http.specs.declared.fault.Fault.{Fault}

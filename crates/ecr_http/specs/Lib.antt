@@ -4,7 +4,7 @@ pub mod Sends
 pub mod Intakes
 pub mod Faults
 pub mod Takings
-pub mod Leads
+pub mod NextHeads
 pub mod Bodies
 pub mod Decoding
 pub mod Reading

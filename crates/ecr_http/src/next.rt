@@ -21,7 +21,7 @@ impl Intake {
     ghost use Rattle.ecr_model.specs.http.Stream.{blank_length, start};
     ghost use Rattle.ecr_http.specs.Bodies.{FitsLimit};
     ghost use Rattle.ecr_http.specs.Events.{HasHead, Behind, TakesRequest, closes_after, event_of, point_of};
-    ghost use Rattle.ecr_http.specs.Leads.{IsReady, IsRead};
+    ghost use Rattle.ecr_http.specs.NextHeads.{IsReady, IsRead};
     ghost use Rattle.ecr_http.specs.Reading.{Nexts};
 
     /// An intake that has read nothing.

@@ -23,7 +23,7 @@ pub struct Reader {
 impl Model for Reader {
     ghost use Rattle.std.specs.Prelude.{◌≡◌, false};
     ghost use Rattle.ecr_model.specs.http.Stream.{Point};
-    ghost use Rattle.ecr_http.specs.Leads.{IsReady};
+    ghost use Rattle.ecr_http.specs.NextHeads.{IsReady};
     ghost use Rattle.ecr_http.specs.Events.{point_of};
 
     ghost Value = { Point };

@@ -1,5 +1,5 @@
 use Rattle.std.proofs.Common.{◌≤◌}
-use Rattle.ecr_http.specs.Leads.{IsRead}
+use Rattle.ecr_http.specs.NextHeads.{IsRead}
 use Rattle.ecr_http.specs.Takings.{left_to_read}
 use Rattle.ecr_http.proofs.intake.Intake.find_head.Given as goal
 

@@ -2,7 +2,7 @@ use Rattle.std.proofs.Common.{length, arith}
 use Rattle.ecr_model.specs.http.Framing.{max_head, HasNoEnd}
 use Rattle.ecr_model.proofs.lemmas.http.FrontLemmas.{IsFront-long}
 use Rattle.ecr_http.specs.Takings.{left_to_read}
-use Rattle.ecr_http.proofs.LeadLemmas.{looked, IsRead-looked, LooksOn-reads}
+use Rattle.ecr_http.proofs.NextHeadLemmas.{looked, IsRead-looked, LooksOn-reads}
 use Rattle.ecr_http.proofs.intake.Intake.lengthen.Goals as goal
 
 pub returns-then-len-ge-MAX_HEAD-clause-goes_on : goal.returns-then-len-ge-MAX_HEAD-clause-goes_on

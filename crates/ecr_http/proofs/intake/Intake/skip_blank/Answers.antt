@@ -1,9 +1,9 @@
 use Rattle.std.proofs.Common.{◌≡◌, sym, ap, ◌∙◌, subst, arith}
 use Rattle.ecr_model.specs.http.Stream.{blank_length}
 use Rattle.ecr_model.proofs.lemmas.http.StreamLemmas.{blank_length-le, blank_length-skipped}
-use Rattle.ecr_http.specs.Leads.{IsReady, IsRead, past_front}
+use Rattle.ecr_http.specs.NextHeads.{IsReady, IsRead, past_front}
 use Rattle.ecr_http.specs.Takings.{left_to_read}
-use Rattle.ecr_http.proofs.LeadLemmas.{IsReady-past, IsRead-past_blank}
+use Rattle.ecr_http.proofs.NextHeadLemmas.{IsReady-past, IsRead-past_blank}
 use Rattle.ecr_http.proofs.intake.Intake.skip_blank.Goals as goal
 
 pub pass-requires-clause-within : goal.pass-requires-clause-within

@@ -11,7 +11,7 @@ use Rattle.ecr_model.specs.http.Stream.{is_blank, blank_length, short, IsFront}
 use Rattle.ecr_model.proofs.lemmas.http.FramingLemmas.{HasNoEnd-append}
 use Rattle.ecr_model.proofs.lemmas.http.FrontLemmas.{IsFront-no_head}
 use Rattle.ecr_model.proofs.lemmas.http.StreamLemmas.{blank_length-le, blank_length-drop}
-use Rattle.ecr_http.specs.Leads.{IsReady, IsRead, LacksRequest, LooksOn, past_front}
+use Rattle.ecr_http.specs.NextHeads.{IsReady, IsRead, LacksRequest, LooksOn, past_front}
 use Rattle.ecr_http.specs.Faults.{IsFault, IsOpen}
 use Rattle.ecr_http.specs.Takings.{lengthened, Gains, ReadsOnce}
 use Rattle.ecr_http.specs.declared.intake.Intake.{Intake}

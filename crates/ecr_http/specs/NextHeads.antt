@@ -35,7 +35,7 @@ IsLead now left (Ok count) = IsEnd max_head now.buffer count
 IsLead now left (Err fault) = LacksRequest now.at now.buffer false left now.total fault
 
 -- the blank bytes were passed, and the end of the head was found, or there is a fault in its place
-pub record Leads (before : Option (List ℕ)) (old : Intake) (after : Option (List ℕ)) (now : Intake)
+pub record FindsHead (before : Option (List ℕ)) (old : Intake) (after : Option (List ℕ)) (now : Intake)
     (lead : Result ℕ Fault) : Type 0 where
   pub read : IsRead before old after now
   pub none : blank_length now.buffer ≡ 0
@@ -44,7 +44,7 @@ pub record Leads (before : Option (List ℕ)) (old : Intake) (after : Option (Li
 -- the reading goes on, or there is a fault in place of the head
 abbrev pub LooksOn : Option (List ℕ) → Intake → Option (List ℕ) → Intake → Result ⊤ Fault → Type 0
 LooksOn before old after now (Ok done) = IsRead before old after now
-LooksOn before old after now (Err fault) = Leads before old after now (Err fault)
+LooksOn before old after now (Err fault) = FindsHead before old after now (Err fault)
 
 -- without the first bytes, so many
 abbrev pub past_front : ℕ → Intake → Intake

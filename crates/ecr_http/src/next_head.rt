@@ -11,13 +11,13 @@ use ecr_outside::Source;
 use std::alloc::Global;
 
 impl Intake {
-    ghost use Rattle.ecr_http.specs.Leads.{IsReady, IsRead, Leads, LooksOn, LacksRequest, past_front};
+    ghost use Rattle.ecr_http.specs.NextHeads.{IsReady, IsRead, FindsHead, LooksOn, LacksRequest, past_front};
     ghost use Rattle.ecr_http.specs.Takings.{left_to_read};
 
     /// Reads through the next head, past the blank bytes before it, and gives how long the head is in bytes.
     pub(crate) fn find_head<S: Source>(&mut self, source: &mut S) -> Result<usize, Fault>
         requires ready { IsReady self.old }
-        ensures leads { Leads (S.left source.old) self.old (S.left source.new) self.new result }
+        ensures finds { FindsHead (S.left source.old) self.old (S.left source.new) self.new result }
         ensures later { S.faults source.old ≤ S.faults source.new }
         ensures cause { result ≡ Err Fault.ReadFault → S.faults source.old < S.faults source.new }
     {

@@ -1,7 +1,7 @@
 use Rattle.std.proofs.Common.{sym, arith}
 use Rattle.ecr_model.proofs.lemmas.http.StreamLemmas.{blank_length-le}
-use Rattle.ecr_http.proofs.LeadLemmas.{blank_length-more, blank_length-stop}
-use Rattle.ecr_http.proofs.lead.blank_length.Goals as goal
+use Rattle.ecr_http.proofs.NextHeadLemmas.{blank_length-more, blank_length-stop}
+use Rattle.ecr_http.proofs.next_head.blank_length.Goals as goal
 
 pub loop-n-preserved : goal.loop-n-preserved
 loop-n-preserved c = blank_length-more c.args.bytes.now c.loop-n.n c.loop-n-test.true c.loop-n.invariant
