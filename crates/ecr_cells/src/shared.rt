@@ -7,3 +7,5 @@ pub(crate) mod doors;
 pub(crate) mod pass;
 pub(crate) mod repository;
 pub(crate) mod site;
+#[cfg(test)]
+mod tests;

@@ -13,14 +13,19 @@ use std::alloc::Global;
 use std::test::Fail;
 
 // The moment of the first call, in seconds. Each call is a second after the one before.
-const FIRST: Moment = 1_700_000_000;
+pub(crate) const FIRST: Moment = 1_700_000_000;
 
 // A desk with two sites, and this limit of names.
-fn two_sites(alloc: Global, names: u64) -> Result<SoloDesk, Mem> {
+pub(crate) fn two_sites(alloc: Global, names: u64) -> Result<SoloDesk, Mem> {
     let mut limits = Limits::standard();
     limits.names = names;
+    SoloDesk::new(alloc, sites(alloc)?, limits)
+}
+
+// The two sites.
+pub(crate) fn sites(alloc: Global) -> Result<Vec<SiteId>, Mem> {
     let sites = vec![in alloc; site(alloc, b"us-east-1")?, site(alloc, b"eu-west-1")?]?;
-    SoloDesk::new(alloc, sites, limits)
+    Ok(sites)
 }
 
 fn site(alloc: Global, region: &[u8]) -> Result<SiteId, Mem> {
@@ -50,14 +55,26 @@ fn made(
     call: Call,
     moment: Moment,
 ) -> Result<String, Mem> {
+    let answer = answered(alloc, desk, at, name, call, moment)?;
+    told(alloc, &answer)
+}
+
+// Makes the call at the site of that place.
+pub(crate) fn answered(
+    alloc: Global,
+    desk: &mut SoloDesk,
+    at: usize,
+    name: &str,
+    call: Call,
+    moment: Moment,
+) -> Result<Answer, Mem> {
     let Some(site) = site_at(desk, at)? else {
-        return format!(in alloc; "not served");
+        return Err(Mem);
     };
     let name = Name {
         text: SharedText::copy_of(alloc, name.as_bytes())?,
     };
-    let answer = desk.call(alloc, &RepoKey { site, name }, call, Load::Nothing, moment)?;
-    told(alloc, &answer)
+    desk.call(alloc, &RepoKey { site, name }, call, Load::Nothing, moment)
 }
 
 // What came of a call, and where it was decided, in words.
@@ -69,7 +86,7 @@ fn told(alloc: Global, answer: &Answer) -> Result<String, Mem> {
     Ok(words)
 }
 
-fn replied(alloc: Global, reply: &Reply) -> Result<String, Mem> {
+pub(crate) fn replied(alloc: Global, reply: &Reply) -> Result<String, Mem> {
     match reply {
         Reply::Created { created, .. } => format!(in alloc; "created {created}"),
         Reply::Deleted { created, .. } => format!(in alloc; "deleted {created}"),
@@ -110,11 +127,11 @@ fn decided(alloc: Global, place: &Place) -> Result<String, Mem> {
     }
 }
 
-fn read(text: &SharedText) -> &str {
+pub(crate) fn read(text: &SharedText) -> &str {
     str::from_utf8(text.as_bytes()).unwrap_or("no text")
 }
 
-fn create() -> Call {
+pub(crate) fn create() -> Call {
     Call::Create {
         mutability: Mutability::Mutable,
     }
