@@ -101,7 +101,10 @@ fn a_second_caller_sees_what_the_first_one_did(rt: HostRuntime) -> Result<(), Fa
     let alloc = rt.alloc();
     let (desk, mut first) = opened(alloc, 100)?;
     let words = made(&rt, alloc, &desk, &mut first, 0, "app", create(), FIRST)?;
-    assert_eq!(rt; words.as_str(), "created 1700000000, us-east-1+, us-east-1/app+");
+    assert_eq!(rt;
+        words.as_str(),
+        "created 1700000000, us-east-1+, us-east-1/app+"
+    );
     let mut second = desk.split(&rt, alloc, &mut first)?;
     let words = made(&rt, alloc, &desk, &mut second, 0, "app", create(), FIRST)?;
     assert_eq!(rt; words.as_str(), "exists, us-east-1, us-east-1/app");
@@ -110,13 +113,40 @@ fn a_second_caller_sees_what_the_first_one_did(rt: HostRuntime) -> Result<(), Fa
     let words = made(&rt, alloc, &desk, &mut second, 0, "app", call, FIRST)?;
     assert_eq!(rt; words.as_str(), "set Immutable, us-east-1, us-east-1/app+");
     let words = made(&rt, alloc, &desk, &mut second, 0, "web", create(), FIRST)?;
-    assert_eq!(rt; words.as_str(), "created 1700000000, us-east-1+, us-east-1/web+");
+    assert_eq!(rt;
+        words.as_str(),
+        "created 1700000000, us-east-1+, us-east-1/web+"
+    );
 
     // The first caller has a door to "app" already, and none to "web".
-    let words = made(&rt, alloc, &desk, &mut first, 0, "app", Call::Describe, FIRST)?;
-    assert_eq!(rt; words.as_str(), "app 1700000000 Immutable, us-east-1, us-east-1/app");
-    let words = made(&rt, alloc, &desk, &mut first, 0, "web", Call::Describe, FIRST)?;
-    assert_eq!(rt; words.as_str(), "web 1700000000 Mutable, us-east-1, us-east-1/web");
+    let words = made(
+        &rt,
+        alloc,
+        &desk,
+        &mut first,
+        0,
+        "app",
+        Call::Describe,
+        FIRST,
+    )?;
+    assert_eq!(rt;
+        words.as_str(),
+        "app 1700000000 Immutable, us-east-1, us-east-1/app"
+    );
+    let words = made(
+        &rt,
+        alloc,
+        &desk,
+        &mut first,
+        0,
+        "web",
+        Call::Describe,
+        FIRST,
+    )?;
+    assert_eq!(rt;
+        words.as_str(),
+        "web 1700000000 Mutable, us-east-1, us-east-1/web"
+    );
     assert_eq!(rt; desk.made(&first), 2);
     assert_eq!(rt; desk.made(&second), 3);
     Ok(())
