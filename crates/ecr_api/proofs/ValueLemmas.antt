@@ -138,13 +138,16 @@ pub all_texts-items_view : (vs : List Value) → are_texts (items_view vs) ≡ t
 all_texts-items_view vs e =
     ap (λ b. if b then Some (texts_of (items_view vs)) else None) e ∙ ap Some (texts_of-items_view vs e)
 
+-- where some value is no text there are no texts
 pub all_texts-other : (vs : List Value) → are_texts (items_view vs) ≡ false → all_texts (items_view vs) ≡ None
 all_texts-other vs e = ap (λ b. if b then Some (texts_of (items_view vs)) else None) e
 
+-- there are as many texts as values
 pub length-map : (vs : List Value) → length (map item_text vs) ≡ length vs
 length-map [] = refl
 length-map (v ∷ vs) = ap suc (length-map vs)
 
+-- all texts are names where all values' texts are
 pub list_all-map : (vs : List Value) → list_all is_name (map item_text vs) ≡ list_all (λ v. is_name (item_text v)) vs
 list_all-map [] = refl
 list_all-map (v ∷ vs) = ap (λ b. is_name (item_text v) && b) (list_all-map vs)

@@ -31,10 +31,12 @@ SharedRepository-send : IsSend SharedRepository.the_row
 SharedRepository-send = search (RepoState-send, sendable, crosses) depth 60 fits 20000
 
 Door-send : IsSend Door.the_row
-Door-send = search (SharedRepository-send, turnstile.the_send, turnstile.the_sync, pass.the_send, sendable, crosses) depth 60 fits 20000
+Door-send = search (SharedRepository-send, turnstile.the_send, turnstile.the_sync, pass.the_send, sendable, crosses)
+    depth 60 fits 20000
 
 SharedDirectory-send : IsSend SharedDirectory.the_row
-SharedDirectory-send = search (SiteState-send, Door-send, Name-send, maps.crosses, sendable, crosses) depth 60 fits 20000
+SharedDirectory-send = search (SiteState-send, Door-send, Name-send, maps.crosses, sendable, crosses)
+    depth 60 fits 20000
 
 SharedText-sync : IsSync SharedText.the_row
 SharedText-sync = search (sendable, crosses) depth 60 fits 20000
@@ -42,11 +44,18 @@ SharedText-sync = search (sendable, crosses) depth 60 fits 20000
 SiteId-sync : IsSync SiteId.the_row
 SiteId-sync = search (SharedText-sync, sendable, crosses) depth 60 fits 20000
 
+-- a desk of many callers may cross threads
 pub SharedDesk-send : IsSend SharedDesk.the_row
-SharedDesk-send = search (SharedDirectory-send, SiteId-send, turnstile.the_send, maps.crosses, sendable, crosses) depth 60 fits 20000
+SharedDesk-send = search (SharedDirectory-send, SiteId-send, turnstile.the_send, maps.crosses, sendable, crosses)
+    depth 60 fits 20000
 
+-- threads may share a desk of many callers
 pub SharedDesk-sync : IsSync SharedDesk.the_row
-SharedDesk-sync = search (SharedDirectory-send, SiteId-sync, turnstile.the_sync, maps.crosses, sendable, crosses) depth 60 fits 20000
+SharedDesk-sync = search (SharedDirectory-send, SiteId-sync, turnstile.the_sync, maps.crosses, sendable, crosses)
+    depth 60 fits 20000
 
+-- passes may cross threads
 pub DeskPass-send : IsSend DeskPass.the_row
-DeskPass-send = search (SharedDirectory-send, Door-send, SiteId-send, Name-send, pass.the_send, maps.crosses, sendable, crosses) depth 60 fits 20000
+DeskPass-send =
+    search (SharedDirectory-send, Door-send, SiteId-send, Name-send, pass.the_send, maps.crosses, sendable, crosses)
+    depth 60 fits 20000

@@ -89,6 +89,7 @@ IsDirectoryTurn-site_call d ticket caller c reply sound later same asks =
           }) asks);
     }
 
+-- a call on a repository does nothing in a directory
 pub IsDirectoryTurn-call : (d : SiteJournal) (ticket caller : ℕ) (beside : Beside) (c : Call)
     → IsDirectoryTurn d d ticket caller (call beside c) done.Nothing
 IsDirectoryTurn-call d ticket caller beside c = record { told_is = refl; changes_is = refl; left = refl }

@@ -1,5 +1,7 @@
 pub mod CrossingLemmas
 pub mod DirectoryLemmas
+pub mod HoldLemmas
+pub mod KeyLemmas
 pub mod RepositoryLemmas
 pub mod RunLemmas
 pub mod SharedDeskLemmas

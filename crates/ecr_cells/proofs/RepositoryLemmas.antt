@@ -55,14 +55,17 @@ IsRepositoryTurn-call s after ticket caller moment given c out sound later reply
       entered s ticket caller turn c is (Some r) =
           ap (λ n. with_entry s (record { ticket = n; caller = caller; entry = entry_of turn c })) is
 
+-- no name is looked up in a repository
 pub IsRepositoryTurn-knows : (s : State) (ticket caller : ℕ) (name : Name)
     → IsRepositoryTurn s s ticket caller (knows name) done.Nothing
 IsRepositoryTurn-knows s ticket caller name = record { told_is = refl; changes_is = refl; left = refl }
 
+-- no name is registered in a repository
 pub IsRepositoryTurn-register : (s : State) (ticket caller : ℕ) (name : Name)
     → IsRepositoryTurn s s ticket caller (register name) done.Nothing
 IsRepositoryTurn-register s ticket caller name = record { told_is = refl; changes_is = refl; left = refl }
 
+-- a call on a site does nothing in a repository
 pub IsRepositoryTurn-site_call : (s : State) (ticket caller : ℕ) (c : SiteCall)
     → IsRepositoryTurn s s ticket caller (site_call c) done.Nothing
 IsRepositoryTurn-site_call s ticket caller c = record { told_is = refl; changes_is = refl; left = refl }

@@ -3,7 +3,7 @@ use Rattle.std.proofs.Common.{◌≡◌, ◌++◌, ◌∷◌, ℕ, Bool, true, f
 use Rattle.std.specs.BTreeMap.{is_at}
 use Rattle.std.specs.Option.{option_map_or}
 use Rattle.std.proofs.lemmas.Bool.{cond_both, cond-true}
-use Rattle.std.proofs.lemmas.List.Elements.{All-nil, All-push, All-weaker}
+use Rattle.std.proofs.lemmas.List.Elements.{All-nil, All-push}
 use Rattle.ecr_model.specs.declared.registry.journal.CellKey.{CellKey}
 use Rattle.ecr_model.specs.declared.registry.journal.CellKey.TheVariants.{Directory, Repository}
 use Rattle.ecr_model.specs.declared.registry.journal.Limits.{Limits}
@@ -13,7 +13,9 @@ use Rattle.ecr_model.specs.names.Sites.{site_order}
 use Rattle.ecr_model.specs.registry.Views.{seen_of, past_of}
 use Rattle.ecr_turn.specs.Passes.{Gate}
 use Rattle.ecr_cells.specs.SiteCells.{site_of_cell}
-use Rattle.ecr_cells.specs.Shared.{SiteKnown, AreGates, AreOpen, IsFresh, Opens, first_known, frame_of_directory, gate_at, pass_of, passes_at, view_in}
+use Rattle.ecr_cells.specs.Doors.{frame_of_directory}
+use Rattle.ecr_cells.specs.Shared.{SiteKnown, AreGates, AreOpen, HasSeenNothing, Opens, first_known, gate_at, pass_of, passes_at, view_in}
+use Rattle.ecr_cells.proofs.KeyLemmas.{All-put, IsSome-put}
 use Rattle.ecr_cells.proofs.WorldLemmas.{site-same, site-self}
 
 -- what holds of one site's turnstile, and of those before, holds of all
@@ -29,6 +31,7 @@ cond-no : {A : Type 0} (b : Bool) (x y : A) → b ≡ false → cond b x y ≡ y
 cond-no false x y is = refl
 cond-no true x y is = cc
 
+-- one more site is open
 pub AreOpen-opens : (served : List SiteId) (limits : Limits) (gates gates' : List (SiteId × Gate))
     (sites sites' : List (SiteId × SiteKnown)) (opened : List SiteId) (site : SiteId)
     → AreOpen served limits gates sites opened
@@ -47,17 +50,14 @@ AreOpen-opens served limits gates gates' sites sites' opened site are opens =
           (λ (o : Option SiteKnown). gate_of o ≡ gate_at gates' other)
           (λ yes. sym (opens.gates_are other ∙ cond-true (is_at (site_order site) other) (Some opens.gate)
           (gate_at gates other) yes))
-          (λ differs. are.same other ∙ sym (opens.gates_are other ∙ cond-no (is_at (site_order site) other) (Some opens.gate) (gate_at gates other) differs));
+          (λ differs. are.same other
+          ∙ sym (opens.gates_are other ∙ cond-no (is_at (site_order site) other) (Some opens.gate)
+          (gate_at gates other) differs));
       fresh = λ other. subst (λ (o : Option SiteKnown). IfSome o (First other)) (sym (opens.passes_are other))
           (IfSome-opened site other First (first_known opens.gate) (passes_at sites other) refl (are.fresh other));
       all = All-push (λ s. IsSome (gate_at gates' s)) opened site
-          (All-weaker (λ s. IsSome (gate_at gates s)) (λ s. IsSome (gate_at gates' s))
-          (λ s is. subst (λ (o : Option Gate). IsSome o) (sym (opens.gates_are s))
-          (cond_both (is_at (site_order site) s) (Some opens.gate) (gate_at gates s) (λ (o : Option Gate). IsSome o)
-          (λ yes. refl) (λ differs. is)))
-          opened are.all)
-          (subst (λ (o : Option Gate). IsSome o) (sym (opens.gates_are site ∙ cond-true (is_at (site_order site) site)
-          (Some opens.gate) (gate_at gates site) (site-self site))) refl);
+          (All-put site_order gates gates' site opens.gate opened opens.gates_are are.all)
+          (IsSome-put site_order gates gates' site opens.gate (site-self site) opens.gates_are);
     }
 
 -- no site is open at first
@@ -99,11 +99,11 @@ unseen_there cell None fresh = (refl, refl)
 unseen_there cell (Some p) fresh = at_first cell p fresh
 
 -- each site's pass has seen nothing
-pub IsFresh-open : (served : List SiteId) (limits : Limits) (gates : List (SiteId × Gate))
+pub HasSeenNothing-open : (served : List SiteId) (limits : Limits) (gates : List (SiteId × Gate))
     (sites : List (SiteId × SiteKnown)) (opened : List SiteId) → AreOpen served limits gates sites opened
-    → IsFresh (pass_of (record { sites = sites; made = 0 }))
+    → HasSeenNothing (pass_of (record { sites = sites; made = 0 }))
 unfolding seen_there past_there
-IsFresh-open served limits gates sites opened are = record {
+HasSeenNothing-open served limits gates sites opened are = record {
   unseen = λ cell. unseen_there cell (passes_at sites (site_of_cell cell)) (are.fresh (site_of_cell cell));
   none_made = refl;
 }

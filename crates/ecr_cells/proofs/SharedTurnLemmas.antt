@@ -18,7 +18,7 @@ use Rattle.ecr_repo.specs.States.{State}
 use Rattle.ecr_site.specs.States.{SiteJournal, frame_of_journal}
 use Rattle.ecr_cells.specs.declared.deed.Done.{Done}
 use Rattle.ecr_cells.specs.Deeds.{told_of, changes}
-use Rattle.ecr_cells.specs.Shared.{Visited, made_at, view_of, realm_of, frame_of_directory}
+use Rattle.ecr_cells.specs.Doors.{Visited, made_at, view_of, realm_of_frame, frame_of_directory}
 use Rattle.ecr_cells.specs.Turns.{turn_in_directory, turn_in_repository, IsDirectoryTurn, IsRepositoryTurn}
 
 -- ---- journals
@@ -73,7 +73,8 @@ pub IsMade-turn : (before mid after : Known) (ticket told caller : ℕ) (found l
     → IsSamePass mid after × (after.past ≡ ticket + 1) → after.seen ≡ left
     → left ≡ lines_after caller told lines entry
     → IsMade before after told lines entry
-IsMade-turn before mid after ticket told caller found lines left entry entered fresh grown below told_is lines_are caller_is ended seen left_is =
+IsMade-turn before mid after ticket told caller found lines left entry entered fresh grown below told_is lines_are
+    caller_is ended seen left_is =
     record {
       grown = subst (λ (ls : List Line). Grows before.caller before.past before.seen ls) (sym lines_are) grown;
       fresh = subst (λ (n : ℕ). before.past ≤ n) (sym told_is) fresh;
@@ -160,11 +161,11 @@ pub Visited-directory : (d d' : SiteJournal) (before after : Known) (ask : Ask) 
     (ticket caller : ℕ)
     → IsDirectoryTurn d d' ticket caller ask done
     → IsMade before after ticket d.journal (turn_in_directory d ticket ask).entry
-    → Visited (realm_of (frame_of_directory (frame_of_journal d))) (Some (view_of before)) (view_of after)
+    → Visited (realm_of_frame (frame_of_directory (frame_of_journal d))) (Some (view_of before)) (view_of after)
     (Directory d.site) ask (told_of done) (record { cell = Directory d.site; ticket = ticket; changed = changes done })
 unfolding turn_at
 Visited-directory d d' before after ask done ticket caller turn made =
-    Visited-made (realm_of (frame_of_directory (frame_of_journal d))) before after (Directory d.site) ask
+    Visited-made (realm_of_frame (frame_of_directory (frame_of_journal d))) before after (Directory d.site) ask
     (told_of done) ticket (changes done) d.journal (turn_in_directory d ticket ask) made refl turn.told_is
     turn.changes_is
 

@@ -1,5 +1,5 @@
 -- What turns leave in the views of one caller among many.
-use Rattle.std.proofs.Common.{◌≡◌, ◌≤◌, ◌+◌, ℕ, Bool, false, true, List, [], ◌∷◌, ◌++◌, Option, None, Some, IfSome, IfOk, Result, Ok, Err, option_map, if◌then◌else◌, cond, inl, inr, refl, sym, ap, ◌∙◌, subst, arith, bytes_eq}
+use Rattle.std.proofs.Common.{◌≡◌, ◌≤◌, ◌+◌, ℕ, Bool, false, true, List, [], ◌∷◌, ◌++◌, Option, None, Some, IfSome, IsSome, IfOk, Result, Ok, Err, is_some, option_map, if◌then◌else◌, cond, inl, inr, refl, sym, ap, ◌∙◌, subst, arith, bytes_eq}
 use Rattle.std.specs.BTreeMap.{is_at}
 use Rattle.std.specs.Option.{option_map_or}
 use Rattle.std.proofs.Math.Path.{fun_ext}
@@ -23,9 +23,10 @@ use Rattle.ecr_model.specs.registry.Views.{View, Visits, ExtendsView, Halts, lin
 use Rattle.ecr_model.proofs.lemmas.registry.CellLemmas.{is_eq-name_order, same_site-self}
 use Rattle.ecr_model.proofs.lemmas.registry.SoundnessLemmas.{same_cell-same}
 use Rattle.ecr_turn.specs.Passes.{Gate, Known}
-use Rattle.ecr_desk.specs.Desks.{DeskState, IsStill, StoppedWithin}
+use Rattle.ecr_desk.specs.Desks.{DeskState, Gates, IsStill, StoppedWithin}
 use Rattle.ecr_cells.specs.SiteCells.{site_of_cell}
-use Rattle.ecr_cells.specs.Shared.{Visited, AreDoors, AreGates, AreOfSite, Enters, Peers, Hangs, IsOpened, IsWay, LeadsInto, SiteKnown, DeskKnown, Passes, Looks, caller_state, door_at, door_view, frame_of_directory, frame_of_name, gate_at, gates_in, site_frame_of, made_at, passes_at, view_in, view_of, views_in}
+use Rattle.ecr_cells.specs.Doors.{Visited, AreDoors, Hangs, IsOpened, door_at, frame_of_directory, frame_of_name, realm_of_frame, site_frame_of, made_at, view_of}
+use Rattle.ecr_cells.specs.Shared.{AreGates, AreDoorsOfSite, Becomes, Enters, Peers, IsWay, LeadsInto, SiteKnown, DeskKnown, Passes, Looks, caller_state, door_view, gate_at, gates_in, passes_at, view_in, views_in}
 use Rattle.ecr_cells.proofs.RunLemmas.{MadeTurn}
 use Rattle.ecr_cells.proofs.SiteLemmas.{name-same, name-self}
 use Rattle.ecr_cells.proofs.WorldLemmas.{site-same, site-self}
@@ -44,6 +45,7 @@ Comes-first v now own none unseen comes = record {
   onward = omega arith;
 }
 
+-- a first turn was made in a cell that wasn't visited
 pub Visited-first : (realm : Realm) (v now : View) (cell : CellKey) (ask : Ask) (told : Told) (place : Place)
     → v.past ≡ 0 → v.seen ≡ [] → Visited realm (Some v) now cell ask told place
     → Visited realm None now cell ask told place
@@ -80,16 +82,17 @@ Hangs-again doors mid news name one other first second n =
       both false is = refl
       both true is = cc
 
+-- the door that was hung is its name's
 pub Hangs-there : (doors news : List (Name × Known)) (name : Name) (door : Known) → Hangs doors news name door
     → door_at news name ≡ Some door
 Hangs-there doors news name door hangs =
     hangs name ∙ cond-true (is_at (name_order name) name) (Some door) (door_at doors name) (name-self name)
 
 -- each door is that of its name's repository, with that one too
-pub AreOfSite-hangs : (site : SiteFrame) (doors news : List (Name × Known)) (name : Name) (door : Known)
-    → AreOfSite site doors → door.gate.frame ≡ frame_of_name site name → Hangs doors news name door
-    → AreOfSite site news
-AreOfSite-hangs site doors news name door are is hangs q =
+pub AreDoorsOfSite-hangs : (site : SiteFrame) (doors news : List (Name × Known)) (name : Name) (door : Known)
+    → AreDoorsOfSite site doors → door.gate.frame ≡ frame_of_name site name → Hangs doors news name door
+    → AreDoorsOfSite site news
+AreDoorsOfSite-hangs site doors news name door are is hangs q =
     subst (λ (o : Option Known). IfSome o (λ d. d.gate.frame ≡ frame_of_name site q)) (sym (hangs q))
     (cond_both (is_at (name_order name) q) (Some door) (door_at doors q)
     (λ (o : Option Known). IfSome o (λ d. d.gate.frame ≡ frame_of_name site q))
@@ -118,13 +121,16 @@ pub Enters-first : (realm : Realm) (doors mid news : List (Name × Known)) (key 
 Enters-first realm doors mid news key door ask told place absent none unseen hung enters = record {
   now = enters.now;
   hangs = Hangs-again doors mid news key.name door enters.now hung enters.hangs;
-  visited = subst (λ (o : Option Known). Visited realm (option_map view_of o) (view_of enters.now) (Repository key) ask told place)
+  visited = subst (λ (o : Option Known). Visited realm (option_map view_of o) (view_of enters.now) (Repository key)
+      ask told place)
       (sym absent)
       (Visited-first realm (view_of door) (view_of enters.now) (Repository key) ask told place none unseen
-      (subst (λ (o : Option Known). Visited realm (option_map view_of o) (view_of enters.now) (Repository key) ask told place)
+      (subst (λ (o : Option Known). Visited realm (option_map view_of o) (view_of enters.now) (Repository key)
+      ask told place)
       (Hangs-there doors mid key.name door hung) enters.visited));
 }
 
+-- a look through a door that was just hung is the first one there
 pub Peers-first : (doors mid news : List (Name × Known)) (key : RepoKey) (door : Known)
     → door_at doors key.name ≡ None → door.past ≡ 0 → door.seen ≡ [] → Hangs doors mid key.name door
     → Peers mid news key → Peers doors news key
@@ -136,6 +142,35 @@ Peers-first doors mid news key door absent none unseen hung peers = record {
       (subst (λ (o : Option Known). ExtendsView (option_map view_of o) (view_of peers.now) [])
       (Hangs-there doors mid key.name door hung) peers.comes));
 }
+
+-- ---- the passes at a site
+
+-- passes that were lent, of the same directory as before, are all that changed
+pub Passes-lent : (sites news : List (SiteId × SiteKnown)) (site : SiteId) (before after : SiteKnown)
+    → Some before ≡ passes_at sites site → (IsSome (passes_at sites site) → Becomes sites news site after)
+    → after.directory.gate ≡ before.directory.gate → Passes sites news site before after
+Passes-lent sites news site before after found lent gate = record {
+  was = sym found;
+  updates = lent (ap is_some (sym found));
+  gate = gate;
+}
+
+-- the turnstile of a site's directory is the one that the caller's pass has there
+pub gate-found : (pass : DeskKnown) (sites : List (SiteId × SiteKnown)) (made : ℕ) (site : SiteId) (passes : SiteKnown)
+    (gate : Gate)
+    → record { sites = sites; made = made } ≡ pass → Some passes ≡ passes_at sites site
+    → gates_in pass.sites site ≡ Some gate → passes.directory.gate ≡ gate
+gate-found pass sites made site passes gate is found of =
+    let own : gates_in sites site ≡ Some passes.directory.gate =
+    ap (option_map (λ (s : SiteKnown). s.directory.gate)) (sym found) in
+    let theirs : gates_in sites site ≡ Some gate = ap (λ (p : DeskKnown). gates_in p.sites site) is ∙ of in
+    cc (own, theirs)
+
+-- the view of a cell is that of the passes at its site
+pub views_in-found : (sites : List (SiteId × SiteKnown)) (cell : CellKey) (passes : SiteKnown)
+    → Some passes ≡ passes_at sites (site_of_cell cell) → views_in sites cell ≡ view_in passes cell
+views_in-found sites cell passes found =
+    ap (λ o. option_map_or (λ (s : SiteKnown). view_in s cell) o None) (sym found)
 
 -- ---- all sites
 
@@ -151,14 +186,17 @@ views_in-changed sites news cell before after view passes there others = fun_ext
     (λ yes. subst (λ (c : CellKey). views_in news c ≡ Some view) (same_cell-same cell other yes)
     (ap (λ o. option_map_or (λ (s : SiteKnown). view_in s cell) o None)
     (passes.updates (site_of_cell cell)
-    ∙ cond-true (is_at (site_order (site_of_cell cell)) (site_of_cell cell)) (Some after) (passes_at sites (site_of_cell cell))
+    ∙ cond-true (is_at (site_order (site_of_cell cell)) (site_of_cell cell)) (Some after)
+    (passes_at sites (site_of_cell cell))
     (site-self (site_of_cell cell))) ∙ there))
     (λ differs.
     let of : Option SiteKnown → Option View = λ o. option_map_or (λ (s : SiteKnown). view_in s other) o None in
     ap of (passes.updates (site_of_cell other))
-    ∙ cond_both (is_at (site_order (site_of_cell cell)) (site_of_cell other)) (Some after) (passes_at sites (site_of_cell other))
+    ∙ cond_both (is_at (site_order (site_of_cell cell)) (site_of_cell other)) (Some after)
+    (passes_at sites (site_of_cell other))
     (λ (o : Option SiteKnown). of o ≡ views_in sites other)
-    (λ same. let at : site_of_cell cell ≡ site_of_cell other = site-same (site_of_cell cell) (site_of_cell other) same in
+    (λ same. let at : site_of_cell cell ≡ site_of_cell other =
+    site-same (site_of_cell cell) (site_of_cell other) same in
     others other (sym at) differs ∙ sym (ap of (ap (passes_at sites) (sym at) ∙ passes.was)))
     (λ apart. refl)))
 
@@ -213,29 +251,50 @@ gates_in-same sites news site before after passes = fun_ext (λ other.
     ∙ sym (ap of (ap (passes_at sites) (sym (site-same site other same)) ∙ passes.was)))
     (λ apart. refl))
 
+-- the turnstiles of the caller's pass are as before
+pub gates_in-passes : (pass : DeskKnown) (sites news : List (SiteId × SiteKnown)) (made : ℕ) (site : SiteId)
+    (before after : SiteKnown)
+    → record { sites = sites; made = made } ≡ pass → Passes sites news site before after
+    → gates_in news ≡ gates_in pass.sites
+gates_in-passes pass sites news made site before after is passes =
+    gates_in-same sites news site before after passes ∙ ap (λ (p : DeskKnown). gates_in p.sites) is
+
 -- ---- turns
 
 -- one caller among many isn't alone
-not_still : (realm : Realm) (pass : DeskKnown) → IsStill (caller_state realm pass) → false ≡ true
-not_still realm pass still = ap (λ (s : DeskState). s.alone) still
+not_still : (realm : Realm) (pass : DeskKnown) → IsStill (caller_state realm pass) → Some (gates_in pass.sites) ≡ None
+not_still realm pass still = ap (λ (s : DeskState). s.gates) still
 
--- a turn was made, and counted
-pub MadeTurn-visited : (realm : Realm) (before after : DeskKnown) (cell : CellKey) (view : View) (ask : Ask)
+made_there : (realm : Realm) (before after : DeskKnown) (cell : CellKey) (view : View) (ask : Ask)
     (told : Told) (place : Place)
     → Visited realm (views_in before.sites cell) view cell ask told place
     → views_in after.sites ≡ with_view (views_in before.sites) cell view
+    → gates_in after.sites ≡ gates_in before.sites
     → after.made ≡ before.made + (if place.changed then 1 else 0)
     → MadeTurn (caller_state realm before) (caller_state realm after) cell ask told place
 unfolding Visits
-MadeTurn-visited realm before after cell view ask told place visited views counted = record {
+made_there realm before after cell view ask told place visited views gates counted = record {
   realm_stays = refl;
-  alone_stays = refl;
+  gates_stay = ap (λ (g : Gates). Some g) gates;
   turns = made_at place ∷ [];
   visited = (view, visited.visit, (views, visited.told_is));
   placed = refl;
   counted = omega (arith, counted);
-  parts_are = λ still. let no : false ≡ true = not_still realm before still in cc no;
+  parts_are = λ still. let no : Some (gates_in before.sites) ≡ None = not_still realm before still in cc no;
 }
+
+-- a turn was made, and counted
+pub MadeTurn-visited : (realm : Realm) (pass : DeskKnown) (sites news : List (SiteId × SiteKnown)) (made now : ℕ)
+    (cell : CellKey) (was : Option View) (view : View) (ask : Ask) (told : Told) (place : Place)
+    → record { sites = sites; made = made } ≡ pass → views_in sites cell ≡ was
+    → Visited realm was view cell ask told place → views_in news ≡ with_view (views_in sites) cell view
+    → gates_in news ≡ gates_in sites → now ≡ made + (if place.changed then 1 else 0)
+    → MadeTurn (caller_state realm pass) (caller_state realm (record { sites = news; made = now })) cell ask told place
+MadeTurn-visited realm pass sites news made now cell was view ask told place is viewed visited views gates counted =
+    let after : DeskKnown = record { sites = news; made = now } in
+    subst (λ (p : DeskKnown). MadeTurn (caller_state realm p) (caller_state realm after) cell ask told place) is
+    (made_there realm (record { sites = sites; made = made }) after cell view ask told place
+    (subst (λ (o : Option View). Visited realm o view cell ask told place) (sym viewed) visited) views gates counted)
 
 -- no turn was made
 pub StoppedWithin-looks : {A : Type 0} (realm : Realm) (before after : DeskKnown) (cell : CellKey) (ask : Ask)
@@ -246,27 +305,37 @@ unfolding Halts
 StoppedWithin-looks realm before after cell ask next looks = record {
   stopped = record {
     realm_stays = refl;
-    alone_stays = refl;
+    gates_stay = ap (λ (g : Gates). Some g) looks.gates;
     turns = [];
     halted = looks.glances;
     counted = omega (arith, looks.made);
-    parts_are = λ still. let no : false ≡ true = not_still realm before still in cc no;
+    parts_are = λ still. let no : Some (gates_in before.sites) ≡ None = not_still realm before still in cc no;
   };
   few = omega arith;
 }
 
 -- one more turn was made at a site, in the cell of that view
-pub Looks-comes : (realm : Realm) (before after : DeskKnown) (cell : CellKey) (view : View)
-    → ExtendsView (views_in before.sites cell) view []
-    → views_in after.sites ≡ with_view (views_in before.sites) cell view → after.made ≡ before.made
-    → Looks realm before after cell
-Looks-comes realm before after cell view comes views made =
-    record { glances = inr (refl, (view, comes, views)); made = made }
+pub Looks-comes : (realm : Realm) (pass : DeskKnown) (sites news : List (SiteId × SiteKnown)) (made : ℕ)
+    (cell : CellKey) (was : Option View) (view : View)
+    → record { sites = sites; made = made } ≡ pass → views_in sites cell ≡ was → ExtendsView was view []
+    → views_in news ≡ with_view (views_in sites) cell view → gates_in news ≡ gates_in sites
+    → Looks realm pass (record { sites = news; made = made }) cell
+Looks-comes realm pass sites news made cell was view is viewed comes views gates =
+    let after : DeskKnown = record { sites = news; made = made } in
+    subst (λ (p : DeskKnown). Looks realm p after cell) is (record {
+      glances = inr (refl, (view, subst (λ (o : Option View). ExtendsView o view []) (sym viewed) comes, views));
+      gates = gates;
+      made = refl;
+    })
 
 -- nothing was seen or made
-pub Looks-none : (realm : Realm) (before after : DeskKnown) (cell : CellKey)
-    → views_in after.sites ≡ views_in before.sites → after.made ≡ before.made → Looks realm before after cell
-Looks-none realm before after cell views made = record { glances = inl views; made = made }
+pub Looks-none : (realm : Realm) (pass : DeskKnown) (sites news : List (SiteId × SiteKnown)) (made : ℕ)
+    (cell : CellKey)
+    → record { sites = sites; made = made } ≡ pass → views_in news ≡ views_in sites
+    → gates_in news ≡ gates_in sites → Looks realm pass (record { sites = news; made = made }) cell
+Looks-none realm pass sites news made cell is views gates =
+    subst (λ (p : DeskKnown). Looks realm p (record { sites = news; made = made }) cell) is
+    (record { glances = inl views; gates = gates; made = refl })
 
 -- the passes of a site with the same directory and doors leave all views
 pub views_in-same : (sites news : List (SiteId × SiteKnown)) (site : SiteId) (before after : SiteKnown)
@@ -293,7 +362,8 @@ LeadsInto-passes sites news key before after door passes doors way = record {
   passes = after;
   found = passes.updates key.site
       ∙ cond-true (is_at (site_order key.site) key.site) (Some after) (passes_at sites key.site) (site-self key.site);
-  way = subst (λ (ds : List (Name × Known)). IsWay (site_frame_of after.directory.gate.frame) ds key.name door) (sym doors)
+  way = subst (λ (ds : List (Name × Known)). IsWay (site_frame_of after.directory.gate.frame) ds key.name door)
+      (sym doors)
       (subst (λ (g : Gate). IsWay (site_frame_of g.frame) before.doors key.name door) (sym passes.gate) way);
 }
 
@@ -316,6 +386,7 @@ StoppedWithin-first_turn realm before after key c site at looks =
     StoppedWithin-looks realm before after (Directory key.site) (first_ask key.name c) (λ told. ends told)
     (subst (λ (s : SiteId). Looks realm before after (Directory s)) at looks)
 
+-- not even the turn of a call on a site was made
 pub StoppedWithin-site_script : (realm : Realm) (before after : DeskKnown) (site copy : SiteId) (c : SiteCall)
     → copy ≡ site → Looks realm before after (Directory copy)
     → StoppedWithin 0 (caller_state realm before) (caller_state realm after) (site_script site c)
@@ -337,10 +408,24 @@ StoppedWithin-cell_turn realm before after key copy c given moment at looks =
 -- ---- the desk
 
 -- the sites and limits of a site's turnstile are the desk's
-pub realm_of-gate : (served : List SiteId) (limits : Limits) (sites : List (SiteId × Gate)) (site : SiteId)
+pub frame_of-gate : (served : List SiteId) (limits : Limits) (sites : List (SiteId × Gate)) (site : SiteId)
     (gate : Gate)
     → AreGates served limits sites → gate_at sites site ≡ Some gate
     → gate.frame ≡ frame_of_directory (record { site = site; served = served; limits = limits })
-realm_of-gate served limits sites site gate are found =
+frame_of-gate served limits sites site gate are found =
     subst (λ (o : Option Gate). IfSome o (λ x. x.frame ≡ frame_of_directory
     (record { site = site; served = served; limits = limits }))) found (are.each site)
+
+-- a way into a repository goes through a turnstile with the desk's sites and limits
+pub LeadsInto-gate : (served : List SiteId) (limits : Limits) (gates : List (SiteId × Gate))
+    (sites : List (SiteId × SiteKnown)) (key copy : RepoKey) (door : Option Known) (way : LeadsInto sites key door)
+    → AreGates served limits gates → gates_in sites ≡ gate_at gates → copy ≡ key
+    → (gates_in sites copy.site ≡ Some way.passes.directory.gate)
+    × (realm_of_frame way.passes.directory.gate.frame ≡ record { served = served; limits = limits })
+LeadsInto-gate served limits gates sites key copy door way are of same =
+    let is : gates_in sites key.site ≡ Some way.passes.directory.gate =
+    ap (option_map (λ (s : SiteKnown). s.directory.gate)) way.found in (
+      ap (λ (k : RepoKey). gates_in sites k.site) same ∙ is,
+      ap realm_of_frame (frame_of-gate served limits gates key.site way.passes.directory.gate are
+          (sym (ap (λ (f : Gates). f key.site) of) ∙ is)),
+    )

@@ -47,11 +47,13 @@ numbered-after lines (Some entry) numbered =
 bytes_eq-self : (a : List ℕ) → bytes_eq a a ≡ true
 bytes_eq-self a = (bytes_eq-Decides a a).1 refl
 
+-- names of the same place in their order are the same
 pub name-same : (a b : Name) → is_eq (name_order a b) ≡ true → a ≡ b
 name-same a b is =
     let same : a.text ≡ b.text = (bytes_eq-Decides a.text b.text).0 (sym (is_eq-name_order a b) ∙ is) in
     ap (λ t. record { text = t }) same
 
+-- a name is at its own place in their order
 pub name-self : (a : Name) → is_eq (name_order a a) ≡ true
 name-self a = is_eq-name_order a a ∙ bytes_eq-self a.text
 

@@ -1,13 +1,11 @@
 -- The laws of passes for another caller.
-use Rattle.std.proofs.Common.{◌≡◌, ◌+◌, ◌<◌, ℕ, true, false, List, [], ◌∷◌, length, take, get_or, Option, None, Some, IfSome, IsSome, All, option_map, cond, refl, sym, ap, ◌∙◌, subst, ⊎_elim, arith}
+use Rattle.std.proofs.Common.{◌≡◌, ◌+◌, ◌<◌, ℕ, true, false, List, [], length, take, get_or, Option, None, Some, IfSome, IsSome, All, is_some, option_map, refl, sym, ap, ◌∙◌, subst, arith}
 use Rattle.std.specs.BTreeMap.{is_at}
-use Rattle.std.specs.Map.{keys_of, lookup}
+use Rattle.std.specs.Map.{keys_of}
 use Rattle.std.specs.Option.{option_map_or}
-use Rattle.std.specs.Ordering.{is_eq}
 use Rattle.std.proofs.Math.Path.{fun_ext}
-use Rattle.std.specs.declared.cmp.Ordering.{Ordering}
-use Rattle.std.proofs.lemmas.Bool.{cases_Bool, cond_both, cond-true, cond-false}
-use Rattle.std.proofs.lemmas.List.Elements.{All-more, All-tail, All-weaker}
+use Rattle.std.proofs.lemmas.Bool.{cond_both}
+use Rattle.std.proofs.lemmas.List.Elements.{All-more}
 use Rattle.ecr_model.specs.declared.registry.journal.CellKey.{CellKey}
 use Rattle.ecr_model.specs.declared.registry.journal.CellKey.TheVariants.{Directory, Repository}
 use Rattle.ecr_model.specs.declared.names.Name.{Name}
@@ -18,27 +16,13 @@ use Rattle.ecr_model.specs.registry.Views.{View, Views}
 use Rattle.ecr_turn.specs.Passes.{Gate, Known}
 use Rattle.ecr_desk.specs.Desks.{Gates, PassState}
 use Rattle.ecr_cells.specs.SiteCells.{site_of_cell}
-use Rattle.ecr_cells.specs.Shared.{SiteKnown, AreOfSite, Hangs, door_at, frame_of_name, gates_in, pass_of, passes_at, view_in, view_of, views_in}
+use Rattle.ecr_cells.specs.Doors.{Hangs, door_at, frame_of_name, view_of}
+use Rattle.ecr_cells.specs.Shared.{SiteKnown, DeskKnown, AreDoorsOfSite, Becomes, gates_in, pass_of, passes_at, view_in, views_in}
 use Rattle.ecr_cells.specs.Splits.{AreSitesSplitting, AreSplit, AreSplitting, DoorsStay, IsSplitAt, IsSplitFrom, IsSplitOff, IsSplitSite, SiteStays, SplitsDoor, SplitsSite, standing}
+use Rattle.ecr_cells.proofs.KeyLemmas.{All-found, All-put, IsSome-put}
 use Rattle.ecr_cells.proofs.SharedViewLemmas.{gates_in-same}
 use Rattle.ecr_cells.proofs.SiteLemmas.{name-same, name-self}
 use Rattle.ecr_cells.proofs.WorldLemmas.{site-same, site-self}
-
--- ---- keys
-
--- of all keys, and so of one that is found
-pub All-found : {K X : Type 0} (order : K → K → Ordering) (P : K → Type 0) (es : List (K × X)) (k : K)
-    → ((a b : K) → is_eq (order a b) ≡ true → a ≡ b)
-    → IsSome (lookup (is_at (order k)) es) → All P (keys_of es) → P k
-All-found order P [] k same found all = let no : false ≡ true = found in cc no
-All-found {K} {X} order P (e ∷ es) k same found all =
-    ⊎_elim
-    (λ yes. subst P (sym (same k e.0 yes)) (all 0 e.0 (omega arith)))
-    (λ differs. All-found order P es k same
-    (subst (λ (o : Option X). IsSome o)
-    (cond-false (is_at (order k) e.0) (Some e.1) (lookup (is_at (order k)) es) differs) found)
-    (All-tail P e.0 (keys_of es) all))
-    (cases_Bool (is_at (order k) e.0))
 
 -- ---- doors
 
@@ -62,18 +46,19 @@ IsSplitFrom-stays (Some k) (Some m) (Some d) is from =
       λ e. from.3 (e ∙ sym (ap (λ p. p.1.caller) same)),
     )
 
--- a door that only learnt of a caller's number
-pub DoorsStay-hangs : (doors news : List (Name × Known)) (name : Name) (before after : Known)
-    → door_at doors name ≡ Some before → standing after ≡ standing before → Hangs doors news name after
-    → DoorsStay doors news
-DoorsStay-hangs doors news name before after found same hangs = λ q.
-    ap (option_map standing) (hangs q)
+-- a door that was lent, and only learnt of a caller's number
+pub DoorsStay-lent : (doors news : List (Name × Known)) (name : Name) (before after : Known)
+    → Some before ≡ door_at doors name → standing after ≡ standing before
+    → (IsSome (door_at doors name) → Hangs doors news name after) → DoorsStay doors news
+DoorsStay-lent doors news name before after found same lent = λ q.
+    ap (option_map standing) (lent (ap is_some (sym found)) q)
     ∙ cond_both (is_at (name_order name) q) (Some after) (door_at doors q)
     (λ (o : Option Known). option_map standing o ≡ option_map standing (door_at doors q))
     (λ yes. ap (λ (p : Gate × View). Some p) same
-    ∙ sym (ap (option_map standing) (ap (door_at doors) (sym (name-same name q yes)) ∙ found)))
+    ∙ sym (ap (option_map standing) (ap (door_at doors) (sym (name-same name q yes)) ∙ sym found)))
     (λ apart. refl)
 
+-- no door is split at first
 pub AreSplitting-none : (doors splits : List (Name × Known)) (names : List Name) → splits ≡ []
     → AreSplitting doors doors splits (take 0 names)
 AreSplitting-none doors splits names empty = record {
@@ -83,13 +68,13 @@ AreSplitting-none doors splits names empty = record {
   all = λ k d less. absurd (omega (arith, less));
 }
 
+-- the next name's door is split too
 pub AreSplitting-splits : (doors mid news splits splits' : List (Name × Known)) (names : List Name) (i : ℕ)
     (name : Name)
     → i < length names → name ≡ get_or names i name
     → AreSplitting doors mid splits (take i names) → DoorsStay mid news → SplitsDoor mid splits splits' name
     → AreSplitting doors news splits' (take (i + 1) names)
 AreSplitting-splits doors mid news splits splits' names i name less is are stays split =
-    let There : Name → Type 0 = λ n. IsSome (door_at splits' n) in
     record {
       kept = λ q. stays q ∙ are.kept q;
       each = λ q. subst (λ (o : Option Known). IfSome o (λ d. IsSplitFrom (door_at doors q) (Some d)))
@@ -99,15 +84,10 @@ AreSplitting-splits doors mid news splits splits' names i name less is are stays
           (λ yes. subst (λ (n : Name). IsSplitFrom (door_at doors n) (Some split.door)) (name-same name q yes)
           (IsSplitFrom-stays (door_at doors name) (door_at mid name) (Some split.door) (are.kept name) split.from))
           (λ apart. are.each q));
-      all = All-more There names i name less
-          (All-weaker (λ n. IsSome (door_at splits n)) There
-          (λ n there. subst (λ (o : Option Known). IsSome o) (sym (split.hangs n))
-          (cond_both (is_at (name_order name) n) (Some split.door) (door_at splits n)
-          (λ (o : Option Known). IsSome o) (λ yes. refl) (λ apart. there)))
-          (take i names) are.all)
-          (subst There is
-          (subst (λ (o : Option Known). IsSome o) (sym (split.hangs name
-          ∙ cond-true (is_at (name_order name) name) (Some split.door) (door_at splits name) (name-self name))) refl));
+      all = All-more (λ n. IsSome (door_at splits' n)) names i name less
+          (All-put name_order splits splits' name split.door (take i names) split.hangs are.all)
+          (subst (λ (n : Name). IsSome (door_at splits' n)) is
+          (IsSome-put name_order splits splits' name split.door (name-self name) split.hangs));
     }
 
 -- the next name has a door still
@@ -125,6 +105,7 @@ split_once (Some k) None there each = let no : false ≡ true = there refl in cc
 split_once None (Some d) there each = each
 split_once (Some k) (Some d) there each = each
 
+-- all doors are split at last
 pub AreSplit-all : (doors news splits : List (Name × Known)) → AreSplitting doors news splits (keys_of doors)
     → AreSplit doors splits
 AreSplit-all doors news splits are = λ name.
@@ -133,10 +114,10 @@ AreSplit-all doors news splits are = λ name.
     (are.each name)
 
 -- the doors of another caller are of the same site
-pub AreOfSite-split : (site : SiteFrame) (doors splits : List (Name × Known)) → AreOfSite site doors
-    → AreSplit doors splits → AreOfSite site splits
+pub AreDoorsOfSite-split : (site : SiteFrame) (doors splits : List (Name × Known)) → AreDoorsOfSite site doors
+    → AreSplit doors splits → AreDoorsOfSite site splits
 unfolding IsSplitFrom
-AreOfSite-split site doors splits are split = λ name. of name (door_at doors name) (door_at splits name) (are name)
+AreDoorsOfSite-split site doors splits are split = λ name. of name (door_at doors name) (door_at splits name) (are name)
     (split name) where
       of : (name : Name) (o s : Option Known) → IfSome o (λ d. d.gate.frame ≡ frame_of_name site name)
           → IsSplitFrom o s → IfSome s (λ d. d.gate.frame ≡ frame_of_name site name)
@@ -176,10 +157,8 @@ IsSplitOff-site passes other split (Directory site) =
 IsSplitOff-site passes other split (Repository key) =
     IsSplitOff-from (door_at passes.doors key.name) (door_at other.doors key.name) (split.doors key.name)
 
--- the desk sees no change where the passes at one site only learnt of callers' numbers
-pub pass_of-stays : (sites news : List (SiteId × SiteKnown)) (made : ℕ) (site : SiteId) (before after : SiteKnown)
-    → passes_at sites site ≡ Some before → SiteStays before after
-    → ((other : SiteId) → passes_at news other ≡ cond (is_at (site_order site) other) (Some after) (passes_at sites other))
+pass_of-stays : (sites news : List (SiteId × SiteKnown)) (made : ℕ) (site : SiteId) (before after : SiteKnown)
+    → passes_at sites site ≡ Some before → SiteStays before after → Becomes sites news site after
     → pass_of (record { sites = news; made = made }) ≡ pass_of (record { sites = sites; made = made })
 pass_of-stays sites news made site before after was stays updates =
     let gate : after.directory.gate ≡ before.directory.gate = ap (λ (p : Gate × View). p.0) stays.directory in
@@ -196,46 +175,55 @@ pass_of-stays sites news made site before after was stays updates =
     ap (λ (g : Gates). record { gates = g; views = views_in news; made = made }) gates
     ∙ ap (λ (v : Views). record { gates = gates_in sites; views = v; made = made }) views
 
+-- the desk sees no change where passes that were lent only learnt of callers' numbers
+pub pass_of-lent : (pass : DeskKnown) (sites news : List (SiteId × SiteKnown)) (made : ℕ) (site : SiteId)
+    (before after : SiteKnown)
+    → record { sites = sites; made = made } ≡ pass → Some before ≡ passes_at sites site → SiteStays before after
+    → (IsSome (passes_at sites site) → Becomes sites news site after)
+    → pass_of (record { sites = news; made = made }) ≡ pass_of pass
+pass_of-lent pass sites news made site before after is found stays lent =
+    pass_of-stays sites news made site before after (sym found) stays (lent (ap is_some (sym found))) ∙ ap pass_of is
+
 -- the passes at a site that were split off, as the desk sees them
 pub IsSplitAt-site : (sites : List (SiteId × SiteKnown)) (made : ℕ) (site : SiteId) (passes other : SiteKnown)
     → passes_at sites site ≡ Some passes → IsSplitSite passes other
     → IsSplitAt (pass_of (record { sites = sites; made = made })) site other
 unfolding IsSplitFrom
 IsSplitAt-site sites made site passes other found split = record {
-  gate = ap (option_map (λ (s : SiteKnown). s.directory.gate)) found ∙ ap (λ (g : Gate). Some g) (sym split.directory.0);
-  seen = λ cell at. subst (λ (o : Option SiteKnown). IsSplitOff (option_map_or (λ (s : SiteKnown). view_in s cell) o None) (view_in other cell))
+  gate = ap (option_map (λ (s : SiteKnown). s.directory.gate)) found
+      ∙ ap (λ (g : Gate). Some g) (sym split.directory.0);
+  seen = λ cell at. subst
+      (λ (o : Option SiteKnown). IsSplitOff (option_map_or (λ (s : SiteKnown). view_in s cell) o None)
+      (view_in other cell))
       (sym (ap (passes_at sites) at ∙ found)) (IsSplitOff-site passes other split cell);
 }
 
+-- the passes at no site are split at first
 pub AreSitesSplitting-none : (pass : PassState) (splits : List (SiteId × SiteKnown)) (sites : List SiteId)
     → splits ≡ [] → AreSitesSplitting pass splits (take 0 sites)
 AreSitesSplitting-none pass splits sites empty = record {
-  each = λ site. subst (λ (ss : List (SiteId × SiteKnown)). IfSome (passes_at ss site) (IsSplitAt pass site)) (sym empty) tt;
+  each = λ site. subst (λ (ss : List (SiteId × SiteKnown)). IfSome (passes_at ss site) (IsSplitAt pass site))
+      (sym empty) tt;
   all = λ k d less. absurd (omega (arith, less));
 }
 
+-- the passes at the next site are split too
 pub AreSitesSplitting-splits : (pass : PassState) (splits splits' : List (SiteId × SiteKnown)) (sites : List SiteId)
     (i : ℕ) (site : SiteId)
     → i < length sites → site ≡ get_or sites i site
     → AreSitesSplitting pass splits (take i sites) → SplitsSite pass splits splits' site
     → AreSitesSplitting pass splits' (take (i + 1) sites)
 AreSitesSplitting-splits pass splits splits' sites i site less is are split =
-    let There : SiteId → Type 0 = λ s. IsSome (passes_at splits' s) in
     record {
       each = λ q. subst (λ (o : Option SiteKnown). IfSome o (IsSplitAt pass q)) (sym (split.hangs q))
           (cond_both (is_at (site_order site) q) (Some split.passes) (passes_at splits q)
           (λ (o : Option SiteKnown). IfSome o (IsSplitAt pass q))
           (λ yes. subst (λ (s : SiteId). IsSplitAt pass s split.passes) (site-same site q yes) split.from)
           (λ apart. are.each q));
-      all = All-more There sites i site less
-          (All-weaker (λ s. IsSome (passes_at splits s)) There
-          (λ s there. subst (λ (o : Option SiteKnown). IsSome o) (sym (split.hangs s))
-          (cond_both (is_at (site_order site) s) (Some split.passes) (passes_at splits s)
-          (λ (o : Option SiteKnown). IsSome o) (λ yes. refl) (λ apart. there)))
-          (take i sites) are.all)
-          (subst There is
-          (subst (λ (o : Option SiteKnown). IsSome o) (sym (split.hangs site
-          ∙ cond-true (is_at (site_order site) site) (Some split.passes) (passes_at splits site) (site-self site))) refl));
+      all = All-more (λ s. IsSome (passes_at splits' s)) sites i site less
+          (All-put site_order splits splits' site split.passes (take i sites) split.hangs are.all)
+          (subst (λ (s : SiteId). IsSome (passes_at splits' s)) is
+          (IsSome-put site_order splits splits' site split.passes (site-self site) split.hangs));
     }
 
 gate_once : (o s : Option SiteKnown) → (IsSome o → IsSome s)
@@ -290,7 +278,8 @@ pub IsSome-gate : (sites : List (SiteId × SiteKnown)) (gates : Gates) (names : 
     → site ≡ get_or names i site → IsSome (gates site)
 IsSome-gate sites gates names i site same found less is =
     subst (λ (f : Gates). IsSome (f site)) same
-    (gate_there (passes_at sites site) (subst (λ (s : SiteId). IsSome (passes_at sites s)) (sym is) (found i site less))) where
+    (gate_there (passes_at sites site) (subst (λ (s : SiteId). IsSome (passes_at sites s)) (sym is)
+    (found i site less))) where
       gate_there : (o : Option SiteKnown) → IsSome o → IsSome (option_map (λ (s : SiteKnown). s.directory.gate) o)
       gate_there None there = let no : false ≡ true = there in cc no
       gate_there (Some s) there = refl

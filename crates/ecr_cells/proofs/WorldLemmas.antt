@@ -26,9 +26,11 @@ use Rattle.ecr_cells.specs.Desks.{site_at, lines_at, world_of, IsOfSite, AreKept
 
 -- ---- cells and sites
 
+-- sites of the same place in their order are the same
 pub site-same : (a b : SiteId) → is_eq (site_order a b) ≡ true → a ≡ b
 site-same a b is = same_site-same a b (sym (is_eq-site_order a b) ∙ is)
 
+-- a site is at its own place in their order
 pub site-self : (a : SiteId) → is_eq (site_order a a) ≡ true
 site-self a = is_eq-site_order a a ∙ same_site-self a
 
@@ -43,7 +45,8 @@ lines_at-after : (sites news : List (SiteId × Site)) (cell : CellKey) (before a
     → Changes sites news (site_of_cell cell) before after → lines_at news cell ≡ lines_of_cell after cell
 lines_at-after sites news cell before after changes =
     ap (λ o. option_map_or (λ (kept : Site). lines_of_cell kept cell) o [])
-    (changes.updates (site_of_cell cell) ∙ cond-true (is_at (site_order (site_of_cell cell)) (site_of_cell cell)) (Some after)
+    (changes.updates (site_of_cell cell) ∙ cond-true (is_at (site_order (site_of_cell cell)) (site_of_cell cell))
+    (Some after)
     (site_at sites (site_of_cell cell)) (site-self (site_of_cell cell)))
 
 -- a journal is as before where it is of another site, or its site has it as before
@@ -95,7 +98,8 @@ no_parts limits (Directory site) lines = refl
 no_parts limits (Repository key) lines = fun_ext (λ k. fun_ext (λ number.
     cond_both (same_key key k) (parts_left (replayed_repository key limits lines) (λ n. [])) (λ n. [])
     (λ (parts : ℕ → List (List ℕ)). parts number ≡ [])
-    (λ yes. cond_both (is_uploading number (replayed_repository key limits lines)) [] [] (λ (ps : List (List ℕ)). ps ≡ [])
+    (λ yes. cond_both (is_uploading number (replayed_repository key limits lines)) [] []
+    (λ (ps : List (List ℕ)). ps ≡ [])
     (λ y. refl) (λ n. refl))
     (λ differs. refl)))
 

@@ -1,15 +1,14 @@
 -- A pass for another caller: what it begins with, and what stays of the one that it is split from.
-use Rattle.std.specs.Prelude.{◌≡◌, ◌≢◌, List, Option, None, Some, IfSome, IsSome, All, cond, option_map}
-use Rattle.std.specs.BTreeMap.{is_at}
+use Rattle.std.specs.Prelude.{◌≡◌, ◌≢◌, List, Option, None, Some, IfSome, IsSome, All, option_map}
 use Rattle.ecr_model.specs.declared.registry.journal.CellKey.{CellKey}
 use Rattle.ecr_model.specs.declared.names.Name.{Name}
 use Rattle.ecr_model.specs.declared.names.SiteId.{SiteId}
-use Rattle.ecr_model.specs.names.Sites.{site_order}
 use Rattle.ecr_model.specs.registry.Views.{View}
 use Rattle.ecr_turn.specs.Passes.{Gate, Known}
 use Rattle.ecr_desk.specs.Desks.{PassState}
 use Rattle.ecr_cells.specs.SiteCells.{site_of_cell}
-use Rattle.ecr_cells.specs.Shared.{SiteKnown, Hangs, door_at, passes_at, view_in, view_of}
+use Rattle.ecr_cells.specs.Doors.{Hangs, door_at, view_of}
+use Rattle.ecr_cells.specs.Shared.{SiteKnown, Becomes, passes_at, view_in}
 
 -- the view of another caller, who begins with what this one has seen: none where this one has none
 unfoldable pub IsSplitOff : Option View → Option View → Type 0
@@ -73,10 +72,10 @@ pub record IsSplitAt (pass : PassState) (site : SiteId) (passes : SiteKnown) : T
 pub record SplitsSite (pass : PassState) (splits news : List (SiteId × SiteKnown)) (site : SiteId) : Type 0 where
   pub passes : SiteKnown
   pub from : IsSplitAt pass site passes
-  pub hangs : (other : SiteId) → passes_at news other ≡ cond (is_at (site_order site) other) (Some passes)
-      (passes_at splits other)
+  pub hangs : Becomes splits news site passes
 
 -- the passes at those sites are split so far
-pub record AreSitesSplitting (pass : PassState) (splits : List (SiteId × SiteKnown)) (sites : List SiteId) : Type 0 where
+pub record AreSitesSplitting (pass : PassState) (splits : List (SiteId × SiteKnown))
+    (sites : List SiteId) : Type 0 where
   pub each : (site : SiteId) → IfSome (passes_at splits site) (IsSplitAt pass site)
   pub all : All (λ site. IsSome (passes_at splits site)) sites

@@ -5,7 +5,10 @@ pub(crate) mod directory;
 pub(crate) mod door;
 pub(crate) mod doors;
 pub(crate) mod pass;
+pub(crate) mod pause;
 pub(crate) mod repository;
 pub(crate) mod site;
 #[cfg(test)]
 mod tests;
+#[cfg(test)]
+mod thread_tests;

@@ -1,13 +1,13 @@
--- What scripts come to on a desk: one and then another, and those of calls on a repository; and runs, where the caller is
--- alone.
-use Rattle.std.proofs.Common.{◌≡◌, ◌≤◌, ◌+◌, ℕ, Bool, true, inl, inr, List, [], ◌∷◌, ◌++◌, length, Option, refl, sym, ap, ◌∙◌, subst, arith, length-append}
+-- What scripts come to on a desk: one and then another, and those of calls on a repository; and runs, where the
+-- caller is alone.
+use Rattle.std.proofs.Common.{◌≡◌, ◌≤◌, ◌+◌, ℕ, List, [], ◌∷◌, ◌++◌, length, Option, None, is_none, refl, sym, ap, ◌∙◌, subst, arith, length-append}
 use Rattle.ecr_model.specs.declared.requests.call.Call.{Call}
 use Rattle.ecr_model.specs.declared.registry.journal.CellKey.{CellKey}
 use Rattle.ecr_model.specs.declared.registry.journal.Place.{Place}
 use Rattle.ecr_model.specs.declared.names.RepoKey.{RepoKey}
 use Rattle.ecr_model.specs.requests.Requests.{Decided, first_ask, first_turn, then_cell, call_script}
 use Rattle.ecr_model.specs.laws.ScriptLaws.{RunsThen}
-use Rattle.ecr_model.specs.registry.Scripts.{Ask, Told, Script, ends, turn, then_do, Realm, World, Journals, Parts, count_changed, run, run_to}
+use Rattle.ecr_model.specs.registry.Scripts.{Ask, Told, Script, ends, turn, then_do, World, Journals, Parts, count_changed, run, run_to}
 use Rattle.ecr_model.specs.registry.Soundness.{AreSound}
 use Rattle.ecr_model.specs.laws.ViewLaws.{IsFirst, IsRun}
 use Rattle.ecr_model.specs.registry.Views.{Views, Terms, PlacedTurn, journals_of, places_of, alone_in, views_of, unsealed, Visits, Halts}
@@ -19,11 +19,11 @@ use Rattle.ecr_desk.specs.Desks.{DeskState, StillState, terms_of, seen_by, still
 -- ---- a caller that is alone
 
 -- a desk that is seen so is still
-still-same : (desk : DeskState) (journals : Journals) → desk.alone ≡ true → desk.views ≡ views_of journals
+still-same : (desk : DeskState) (journals : Journals) → desk.gates ≡ None → desk.views ≡ views_of journals
     → IsStill desk
 still-same desk journals alone views =
-    ap (λ b. record { realm = desk.realm; alone = b; views = desk.views; parts = desk.parts; made = desk.made }) alone
-    ∙ ap (λ v. record { realm = desk.realm; alone = true; views = v; parts = desk.parts; made = desk.made })
+    ap (λ g. record { realm = desk.realm; gates = g; views = desk.views; parts = desk.parts; made = desk.made }) alone
+    ∙ ap (λ v. record { realm = desk.realm; gates = None; views = v; parts = desk.parts; made = desk.made })
     (views ∙ ap (λ (v : Views). views_of (journals_of v)) (sym views))
 
 -- what it has, where its journals are those
@@ -56,7 +56,7 @@ Ran-runs {A} before after script answer places still ran =
     ap count_changed placed ∙ count_changed-run desk.realm desk.world script in
     record {
       still = still-same after (run_on desk script).world.journals
-          (ran.alone_stays ∙ ap (λ (s : DeskState). s.alone) still) is.leaves;
+          (ran.gates_stay ∙ ap (λ (s : DeskState). s.gates) still) is.leaves;
       runs = record {
         realm_stays = ran.realm_stays;
         left = world-same after (run_on desk script).world is.leaves (ran.parts_are still);
@@ -83,7 +83,7 @@ Runs-ran before after script answer places sound runs =
     ap count_changed runs.placed ∙ count_changed-run before.realm before.world script in
     record {
       realm_stays = runs.realm_stays;
-      alone_stays = refl;
+      gates_stay = refl;
       turns = unsealed all.places;
       visited = visited;
       placed = runs.placed ∙ sym (places_of-unsealed all.places);
@@ -92,7 +92,8 @@ Runs-ran before after script answer places sound runs =
     }
 
 -- the first turns of a still desk are the first of a run
-halts-still : {A : Type 0} (before : DeskState) (now : Views) (script : Script A) (turns : List PlacedTurn) → IsStill before
+halts-still : {A : Type 0} (before : DeskState) (now : Views) (script : Script A) (turns : List PlacedTurn)
+    → IsStill before
     → Halts (terms_of before) before.views now script turns
     → IsFirst A before.realm (still_of before).world script now turns
 halts-still before now script turns still halted =
@@ -127,7 +128,7 @@ Stopped-still {A} before after script still stopped =
     halts-still before after.views script stopped.turns still stopped.halted in
     still-same after (run_to (count_changed (places_of stopped.turns)) before.realm
     (still_of before).world script).journals
-    (stopped.alone_stays ∙ ap (λ (s : DeskState). s.alone) still) first.leaves
+    (stopped.gates_stay ∙ ap (λ (s : DeskState). s.gates) still) first.leaves
 
 -- ---- one script and then another
 
@@ -136,7 +137,7 @@ pub Ran-ends : {A : Type 0} (seen : DeskState) (answer : A) → Ran seen seen (e
 unfolding run Visits
 Ran-ends seen answer = record {
   realm_stays = refl;
-  alone_stays = refl;
+  gates_stay = refl;
   turns = [];
   visited = (refl, refl);
   placed = refl;
@@ -145,11 +146,11 @@ Ran-ends seen answer = record {
 }
 
 -- the terms stay
-pub terms-same : (before mid : DeskState) → mid.realm ≡ before.realm → mid.alone ≡ before.alone
+pub terms-same : (before mid : DeskState) → mid.realm ≡ before.realm → mid.gates ≡ before.gates
     → terms_of mid ≡ terms_of before
-terms-same before mid realm alone =
-    ap (λ r. record { realm = r; alone = mid.alone }) realm
-    ∙ ap (λ b. record { realm = before.realm; alone = b }) alone
+terms-same before mid realm gates =
+    ap (λ r. record { realm = r; alone = is_none mid.gates }) realm
+    ∙ ap (λ g. record { realm = before.realm; alone = is_none g }) gates
 
 -- what stood on the desk in between is what the first script left
 same_run : {A B : Type 0} (before mid : StillState) (script : Script A) (next : A → Script B) (a : A)
@@ -177,11 +178,12 @@ Ran-then before mid after script next a b first second one other =
     run-then_do before.realm (still_of before).world script next in
     record {
       realm_stays = other.realm_stays ∙ one.realm_stays;
-      alone_stays = other.alone_stays ∙ one.alone_stays;
+      gates_stay = other.gates_stay ∙ one.gates_stay;
       turns = one.turns ++ other.turns;
-      visited = visits_then (terms_of before) before.views mid.views after.views script next one.turns other.turns a b one.visited
+      visited = visits_then (terms_of before) before.views mid.views after.views script next one.turns other.turns a
+          b one.visited
           (subst (λ (t : Terms). Visits t mid.views after.views (next a) other.turns b)
-          (terms-same before mid one.realm_stays one.alone_stays) other.visited);
+          (terms-same before mid one.realm_stays one.gates_stay) other.visited);
       placed = ap (λ ps. ps ++ second) one.placed ∙ ap (λ ps. places_of one.turns ++ ps) other.placed
           ∙ sym (places_of-append one.turns other.turns);
       counted = counted-then before.made mid.made after.made first second one.counted other.counted;
@@ -204,14 +206,21 @@ pub all_entries : {A : Type 0} (desk : StillState) (script : Script A) (places o
     → places ≡ (run_on desk script).places → places ≡ one
     → all ≡ one ++ more → (run_on desk script).entries + count_changed more ≡ count_changed all
 all_entries desk script places one more all run_is one_is all_is =
-    omega (arith, count_changed-run desk.realm desk.world script, ap count_changed run_is, ap count_changed one_is, ap count_changed all_is, count_changed-append one more)
+    omega (
+      arith,
+      count_changed-run desk.realm desk.world script,
+      ap count_changed run_is,
+      ap count_changed one_is,
+      ap count_changed all_is,
+      count_changed-append one more,
+    )
 
 -- the first one stopped
 unfoldable pub Stopped-first : {A B : Type 0} (before after : DeskState) (script : Script A) (next : A → Script B)
     → Stopped before after script → Stopped before after (then_do script next)
 Stopped-first before after script next stopped = record {
   realm_stays = stopped.realm_stays;
-  alone_stays = stopped.alone_stays;
+  gates_stay = stopped.gates_stay;
   turns = stopped.turns;
   halted = halts_first (terms_of before) before.views after.views script next stopped.turns stopped.halted;
   counted = stopped.counted;
@@ -229,11 +238,12 @@ unfoldable pub Stopped-then : {A B : Type 0} (before mid after : DeskState) (scr
     → Ran before mid script a first → Stopped mid after (next a) → Stopped before after (then_do script next)
 Stopped-then before mid after script next a first one stopped = record {
   realm_stays = stopped.realm_stays ∙ one.realm_stays;
-  alone_stays = stopped.alone_stays ∙ one.alone_stays;
+  gates_stay = stopped.gates_stay ∙ one.gates_stay;
   turns = one.turns ++ stopped.turns;
-  halted = halts_then (terms_of before) before.views mid.views after.views script next one.turns stopped.turns a one.visited
+  halted = halts_then (terms_of before) before.views mid.views after.views script next one.turns stopped.turns
+      a one.visited
       (subst (λ (t : Terms). Halts t mid.views after.views (next a) stopped.turns)
-      (terms-same before mid one.realm_stays one.alone_stays) stopped.halted);
+      (terms-same before mid one.realm_stays one.gates_stay) stopped.halted);
   counted = counted-then before.made mid.made after.made (places_of one.turns) (places_of stopped.turns)
       (one.counted ∙ ap (λ ps. before.made + count_changed ps) one.placed) stopped.counted
       ∙ ap (λ ps. before.made + count_changed ps) (sym (places_of-append one.turns stopped.turns));
@@ -257,7 +267,7 @@ unfoldable pub Stopped-none : {A : Type 0} (before after : DeskState) (script : 
     → Stopped before after script
 Stopped-none before after script same = record {
   realm_stays = ap (λ (s : DeskState). s.realm) same;
-  alone_stays = ap (λ (s : DeskState). s.alone) same;
+  gates_stay = ap (λ (s : DeskState). s.gates) same;
   turns = [];
   halted = subst (λ (s : DeskState). Halts (terms_of before) before.views s.views script []) (sym same)
       (halts_here (terms_of before) before.views script);
@@ -279,7 +289,7 @@ unfoldable pub Stopped-whole : {A : Type 0} (before after : DeskState) (script :
     → Ran before after script a places → Stopped before after script
 Stopped-whole before after script a places ran = record {
   realm_stays = ran.realm_stays;
-  alone_stays = ran.alone_stays;
+  gates_stay = ran.gates_stay;
   turns = ran.turns;
   halted = visits_halt (terms_of before) before.views after.views script ran.turns a ran.visited;
   counted = ran.counted ∙ ap (λ ps. before.made + count_changed ps) ran.placed;
@@ -288,7 +298,12 @@ Stopped-whole before after script a places ran = record {
       let alone = Ran-runs before after script a places still ran in
       ran.parts_are still
       ∙ ap (λ (w : World). w.parts) (sym (run_to-all (count_changed (places_of ran.turns)) desk.realm desk.world script
-      (omega (arith, count_changed-run desk.realm desk.world script, ap count_changed alone.runs.placed, ap count_changed ran.placed))));
+      (omega (
+        arith,
+        count_changed-run desk.realm desk.world script,
+        ap count_changed alone.runs.placed,
+        ap count_changed ran.placed,
+      ))));
 }
 
 -- ---- a call on a repository

@@ -1,29 +1,29 @@
 -- What is seen of a desk, and what a call on it leaves. Of this registry: docs/DECISIONS.md, "Scripts" and "Views".
-use Rattle.std.specs.Prelude.{◌≡◌, ◌≤◌, ◌+◌, ℕ, Bool, true, false, List, [], ◌++◌, length, Option}
+use Rattle.std.specs.Prelude.{◌≡◌, ◌≤◌, ◌+◌, ℕ, List, [], ◌++◌, length, Option, None, Some, is_none}
 use Rattle.ecr_model.specs.declared.names.SiteId.{SiteId}
 use Rattle.ecr_model.specs.declared.registry.journal.Place.{Place}
 use Rattle.ecr_model.specs.registry.Scripts.{Realm, Parts, World, Script, Run, count_changed, run, run_to}
 use Rattle.ecr_turn.specs.Passes.{Gate}
 use Rattle.ecr_model.specs.registry.Views.{Views, Terms, PlacedTurn, journals_of, places_of, views_of, Visits, Halts}
 
--- a desk as its caller sees it: the sites and limits, whether the caller is alone, its views of the cells, the parts of
--- uploads in progress, which only a caller that is alone sees, and how many entries the caller has added
+-- which desk it is: the turnstile of each served site's directory
+abbrev pub Gates : Type 0
+Gates = SiteId → Option Gate
+
+-- a desk as its caller sees it: the sites and limits, which desk it is, or none where the caller is alone, its views of the
+-- cells, the parts of uploads in progress, which only a caller that is alone sees, and how many entries the caller has added
 pub record DeskState : Type 0 where
   pub realm : Realm
-  pub alone : Bool
+  pub gates : Option Gates
   pub views : Views
   pub parts : Parts
   pub made : ℕ
 
 -- the terms of its caller
 abbrev pub terms_of : DeskState → Terms
-terms_of desk = record { realm = desk.realm; alone = desk.alone }
+terms_of desk = record { realm = desk.realm; alone = is_none desk.gates }
 
 -- ---- one caller among many
-
--- which desk it is: the turnstile of each served site's directory
-abbrev pub Gates : Type 0
-Gates = SiteId → Option Gate
 
 -- a desk of many callers: the sites and limits, and which one it is
 pub record SharedState : Type 0 where
@@ -44,7 +44,7 @@ IsOf desk pass = pass.gates ≡ desk.gates
 abbrev pub seen_with : SharedState → PassState → DeskState
 seen_with desk pass = record {
   realm = desk.realm;
-  alone = false;
+  gates = Some pass.gates;
   views = pass.views;
   parts = λ key number. [];
   made = pass.made;
@@ -63,7 +63,7 @@ pub record StillState : Type 0 where
 abbrev pub seen_by : StillState → DeskState
 seen_by desk = record {
   realm = desk.realm;
-  alone = true;
+  gates = None;
   views = views_of desk.world.journals;
   parts = desk.world.parts;
   made = desk.made;
@@ -91,7 +91,7 @@ run_on desk script = run desk.realm desk.world script
 pub record Ran {A : Type 0} (before after : DeskState) (script : Script A) (answer : A)
     (places : List Place) : Type 0 where
   pub realm_stays : after.realm ≡ before.realm
-  pub alone_stays : after.alone ≡ before.alone
+  pub gates_stay : after.gates ≡ before.gates
   pub turns : List PlacedTurn
   pub visited : Visits (terms_of before) before.views after.views script turns answer
   pub placed : places ≡ places_of turns
@@ -101,7 +101,7 @@ pub record Ran {A : Type 0} (before after : DeskState) (script : Script A) (answ
 -- the first turns of the script were made, and no other
 pub record Stopped {A : Type 0} (before after : DeskState) (script : Script A) : Type 0 where
   pub realm_stays : after.realm ≡ before.realm
-  pub alone_stays : after.alone ≡ before.alone
+  pub gates_stay : after.gates ≡ before.gates
   pub turns : List PlacedTurn
   pub halted : Halts (terms_of before) before.views after.views script turns
   pub counted : after.made ≡ before.made + count_changed (places_of turns)

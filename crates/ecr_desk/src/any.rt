@@ -1,5 +1,5 @@
 // The desk as a session uses it, whether its caller is alone or one among many.
-ghost use Rattle.std.specs.Prelude.{◌≡◌, ◌∷◌, [], true, Contains, IfOk, OnErr};
+ghost use Rattle.std.specs.Prelude.{◌≡◌, ◌∷◌, [], None, Contains, IfOk, OnErr};
 ghost use Rattle.ecr_blob_upload.specs.Loads.{FitsCall, given};
 ghost use Rattle.ecr_model.specs.registry.Contents.{AreContents};
 ghost use Rattle.ecr_model.specs.requests.Requests.{call_script, site_script};
@@ -17,7 +17,7 @@ use std::alloc::Global;
 /// Contracts see what the caller has seen of the cells, and how many entries it has added ([`AnyDesk::made`]). A call makes
 /// the turns of its script, in their order. One that finds no memory leaves the turns that it made, each of them whole.
 pub trait AnyDesk {
-    /// The sites and limits, the views of the cells, and the number of entries that were added.
+    /// The sites and limits, which desk it is, the views of the cells, and the number of entries that were added.
     ghost seen: { Self → DeskState };
 
     /// A call on the directory of a served site. It has one turn, which without memory isn't made.
@@ -57,6 +57,6 @@ pub trait AnyDesk {
         ensures sites { result.now ≡ (seen self.now).realm.served }
 
         // A caller that is alone finds every journal sound.
-        ensures sound { (seen self.now).alone ≡ true
+        ensures sound { (seen self.now).gates ≡ None
             → AreSound (seen self.now).realm (journals_of (seen self.now).views) };
 }

@@ -57,7 +57,8 @@ IsFront-over at bytes count head (Sized size) ends parses framed over =
     let beyond : max_body head.target < size = not_le (max_body head.target) size over in
     subst (λ (due : Bool). IsFront at bytes (short due (too_long sections.Body (max_body head.target))))
     (waits_over head size framed beyond)
-    (IsFront-body at bytes count head (Sized size) (lacks (too_long sections.Body (max_body head.target))) ends parses framed
+    (IsFront-body at bytes count head (Sized size) (lacks (too_long sections.Body (max_body head.target))) ends
+    parses framed
     (IsBody-sized_long (max_body head.target) size (drop count bytes) beyond))
 IsFront-over at bytes count head Chunked ends parses framed over = absurd (over tt)
 

@@ -1,5 +1,5 @@
 -- How the decoding of a chunked body goes on, over plain values.
-use Rattle.std.proofs.Common.{◌≡◌, ℕ, suc, ◌+◌, ◌-◌, ◌<◌, ◌≤◌, List, [], ◌++◌, length, take, drop, Option, Some, refl, sym, ap, ap₂, ◌∙◌, subst, arith, length-append, length-drop, append-nil, append_assoc}
+use Rattle.std.proofs.Common.{◌≡◌, ℕ, suc, ◌+◌, ◌-◌, ◌<◌, ◌≤◌, List, [], ◌++◌, length, take, drop, Option, Some, None, Result, Ok, Err, refl, sym, ap, ap₂, ◌∙◌, subst, arith, length-append, length-drop, append-nil, append_assoc}
 use Rattle.std.specs.Io.KnownBytes.{Keeps}
 use Rattle.std.proofs.lemmas.List.{drop-append-le}
 use Rattle.httparse.specs.Grammar.{ChunkLine, ReadsChunkLine, print_chunk_line}
@@ -11,12 +11,13 @@ use Rattle.ecr_model.specs.http.Stream.{IsBody}
 use Rattle.ecr_model.specs.http.Chunks.{Says, lacking, Progress, begun, with_more, Comes, Chunks, IsChunked}
 use Rattle.ecr_model.specs.sessions.Sessions.{max_read}
 use Rattle.ecr_model.proofs.lemmas.http.FramingLemmas.{HasNoEnd-append}
-use Rattle.ecr_model.proofs.lemmas.http.ChunkLemmas.{line_end-is, line_end-append, Says-append, Chunks-append}
+use Rattle.ecr_model.proofs.lemmas.http.ChunkLemmas.{line_end-is, line_end-append, Says-append}
+use Rattle.ecr_model.proofs.lemmas.http.ChunkedLemmas.{Chunks-append}
 use Rattle.ecr_model.proofs.lemmas.http.PartLemmas.{IsChunked-lacks}
 use Rattle.ecr_http.specs.Takings.{Gains, left_to_read}
 use Rattle.ecr_http.specs.Faults.{IsFault, IsOpen}
 use Rattle.ecr_http.specs.Bodies.{HasBody, LacksBody}
-use Rattle.ecr_http.specs.Decoding.{HasLine, StandsAt, Decodes, Awaits, Decoded, rank, left_to_do}
+use Rattle.ecr_http.specs.Decoding.{HasLine, StandsAt, Decodes, Awaits, Decoded, IsNearer, rank, left_to_do}
 use Rattle.ecr_http.specs.declared.intake.Intake.{Intake}
 use Rattle.ecr_http.specs.declared.fault.Fault.{Fault}
 use Rattle.ecr_http.specs.declared.body.Taken.{Taken}
@@ -138,6 +139,19 @@ pub nearer_by_use : (now : Intake) (count : ℕ) (stage other : Stage) → count
 unfolding left_to_do left_to_read
 nearer_by_use now count stage other there less = omega (arith, length-drop count now.buffer)
 
+-- where bytes of a chunk's data were used, no more is left to do
+pub no_farther_by_use : (now : Intake) (count left due : ℕ) → count ≤ length now.buffer
+    → left_to_do (stages.Data due) (rest_of (drop count now.buffer) now) ≤ left_to_do (stages.Data left) now
+unfolding left_to_do left_to_read
+no_farther_by_use now count left due there = omega (arith, length-drop count now.buffer)
+
+-- what is less than the one is less than a greater one
+pub IsNearer-before : (result : Result (Option Stage) Fault) (now : Intake) (mid before : ℕ) → mid ≤ before
+    → IsNearer result now mid → IsNearer result now before
+IsNearer-before (Ok (Some stage)) now mid before less nearer = omega arith
+IsNearer-before (Ok None) now mid before less nearer = tt
+IsNearer-before (Err fault) now mid before less nearer = tt
+
 -- ---- the whole decoding
 
 -- the decoding begins at the first line
@@ -169,7 +183,8 @@ HasBody-decoded limit before old after now held taken d all is =
     let count : d.size ≡ taken.size = took limit before old after now taken.body.items held taken.size d all is in
     record {
       come = d.come;
-      stands = subst (λ (n : ℕ). IsChunked limit (old.buffer ++ d.come.got) (complete taken.body.items n)) count d.whole;
+      stands = subst (λ (n : ℕ). IsChunked limit (old.buffer ++ d.come.got) (complete taken.body.items n))
+          count d.whole;
       rest = subst (λ (n : ℕ). now.buffer ≡ drop n (old.buffer ++ d.come.got)) count d.rest;
     }
 

@@ -107,7 +107,8 @@ GivesEvent-fronts p at bytes now left held told due (Err faults.Bad) s total spe
 )
 GivesEvent-fronts p at bytes now left held told due (Err (faults.TooLong section limit)) s total spent says may f = (
   due,
-  Lacks-front false p at bytes (short due (too_long section limit)) (record { due = due; ending = long_at now.at section limit }) s f.0
+  Lacks-front false p at bytes (short due (too_long section limit))
+      (record { due = due; ending = long_at now.at section limit }) s f.0
       (ap (λ (k : ℕ). Some (record { due = due; ending = long_at k section limit })) (sym f.1)),
   says,
 )
@@ -154,7 +155,8 @@ pub event_of-ReadFault : (now : Intake) (result : Result Request Fault) → even
 event_of-ReadFault now (Ok r) is = absurd (cc)
 event_of-ReadFault now (Err faults.Ended) is = absurd (no_ReadFault (now.at == now.total) now.at is)
   where
-    no_ReadFault : (all_used : Bool) (at : ℕ) → (if all_used then events.End else events.Truncated at) ≡ events.ReadFault → ⊥
+    no_ReadFault : (all_used : Bool) (at : ℕ)
+        → (if all_used then events.End else events.Truncated at) ≡ events.ReadFault → ⊥
     no_ReadFault true at e = cc
     no_ReadFault false at e = cc
 event_of-ReadFault now (Err faults.ReadFault) is = refl
@@ -170,7 +172,8 @@ pub event_of-WriteFault : (now : Intake) (result : Result Request Fault) → eve
 event_of-WriteFault now (Ok r) is = absurd (cc)
 event_of-WriteFault now (Err faults.Ended) is = absurd (no_WriteFault (now.at == now.total) now.at is)
   where
-    no_WriteFault : (all_used : Bool) (at : ℕ) → (if all_used then events.End else events.Truncated at) ≡ events.WriteFault → ⊥
+    no_WriteFault : (all_used : Bool) (at : ℕ)
+        → (if all_used then events.End else events.Truncated at) ≡ events.WriteFault → ⊥
     no_WriteFault true at e = cc
     no_WriteFault false at e = cc
 event_of-WriteFault now (Err faults.ReadFault) is = absurd (cc)

@@ -199,7 +199,8 @@ IsRead-kept before old mid after now last r same kept = subst (IsRead before old
 })
 
 -- less than a head is there, and no more bytes come
-pub LacksRequest-short : (now : Intake) (left : Option (List ℕ)) (fault : Fault) → HasNoEnd now.buffer (length now.buffer)
+pub LacksRequest-short : (now : Intake) (left : Option (List ℕ)) (fault : Fault)
+    → HasNoEnd now.buffer (length now.buffer)
     → length now.buffer < max_head → IsFault IsOpen left now.total fault
     → LacksRequest now.at now.buffer false left now.total fault
 LacksRequest-short now left fault none_ends small is =

@@ -32,8 +32,13 @@ Sends-failed before mid after piece at inside first kept = (
 pub Sends-then : (before mid after : Option (List ℕ)) (head tail : List ℕ) (sent : Sent) → Appends before mid head
     → Sends mid after tail sent → Sends before after (head ++ tail) sent
 Sends-then before mid after head tail Done first second = Appends-trans before mid after head tail first second
-Sends-then before mid after head tail WriteFault first second =
-    (head ++ second.0, second.1, ap (λ l. head ++ l) second.2 ∙ sym (append_assoc head second.0 second.1), Appends-trans before mid after head second.0 first second.3, second.4)
+Sends-then before mid after head tail WriteFault first second = (
+  head ++ second.0,
+  second.1,
+  ap (λ l. head ++ l) second.2 ∙ sym (append_assoc head second.0 second.1),
+  Appends-trans before mid after head second.0 first second.3,
+  second.4,
+)
 
 -- a piece that was cut short ends what would follow it
 pub Sends-cut : (before after : Option (List ℕ)) (head tail : List ℕ) → Sends before after head WriteFault

@@ -68,7 +68,8 @@ MayTell-due p true awaits = inr (awaits refl, refl)
 MayTell-due p false awaits = inl refl
 
 -- as many bytes come past the blank ones as before them, less these
-pub Settled-length : (p : Point) (at : ℕ) (bytes : List ℕ) → Settled p at bytes → at + length bytes ≡ p.at + length p.ahead
+pub Settled-length : (p : Point) (at : ℕ) (bytes : List ℕ) → Settled p at bytes
+    → at + length bytes ≡ p.at + length p.ahead
 Settled-length p at bytes s =
     let place : (past_blank p).at ≡ at = s.at_is in
     let size : length (drop (blank_length p.ahead) p.ahead) ≡ length bytes = ap length s.ahead_is in

@@ -7,7 +7,8 @@ use Rattle.ecr_model.specs.http.Framing.{ends_empty, IsEnd, HasNoEnd, EndsAt}
 use Rattle.ecr_model.specs.declared.http.Section.TheVariants as sections
 use Rattle.ecr_model.specs.http.Fronts.{bad, too_long, open_, complete}
 use Rattle.ecr_model.specs.http.Chunks.{max_chunk_line, max_trailers, line_end, Says, Part, chunk, lacking, if_crlf, Progress, begun, past_chunk, Comes, IsPart, IsChunked}
-use Rattle.ecr_model.proofs.lemmas.http.ChunkLemmas.{line_end-is, Chunks-more, Chunks-length}
+use Rattle.ecr_model.proofs.lemmas.http.ChunkLemmas.{line_end-is}
+use Rattle.ecr_model.proofs.lemmas.http.ChunkedLemmas.{Chunks-more, Chunks-length}
 use Rattle.ecr_model.proofs.lemmas.http.PartLemmas.{IsPart-open_line, IsPart-long_line, IsPart-no_size, IsPart-over, IsPart-data, IsPart-open_data, IsPart-last, IsPart-open_trailers, IsPart-long_trailers, Chunks-ahead, IsChunked-whole}
 use Rattle.ecr_http.specs.Bodies.{LacksBody}
 use Rattle.ecr_http.specs.Decoding.{IsClosed, HasLine, IsInData, IsInTrailers, StandsAt, Decodes, Awaits, Decoded}
@@ -179,7 +180,8 @@ pub Data-awaits : (limit : ℕ) (before : Option (List ℕ)) (old : Intake) (aft
 Data-awaits limit before old after now body left empty d = record {
   decodes = d;
   less = found_lack limit before old after now body (stages.Data left) open_ d
-      (IsPart-open_data limit (length d.progress.body) d.progress.ahead d.stands.place d.stands.size d.stands.line.ends d.stands.line.says
+      (IsPart-open_data limit (length d.progress.body) d.progress.ahead d.stands.place d.stands.size d.stands.line.ends
+      d.stands.line.says
       d.stands.some d.stands.within few);
 }
   where
@@ -190,7 +192,8 @@ Data-awaits limit before old after now body left empty d = record {
 data_part : (limit : ℕ) (p : Progress) (body buffer : List ℕ) (d : IsInData limit p body buffer 0)
     → Comes limit p (if_crlf (chunk d.came (suc d.place + d.size + 2)) buffer)
 data_part limit p body buffer d =
-    IsPart-data limit (length p.body) p.ahead d.place d.size d.came buffer d.line.ends d.line.says d.some d.within d.behind
+    IsPart-data limit (length p.body) p.ahead d.place d.size d.came buffer d.line.ends d.line.says d.some
+    d.within d.behind
     (omega (arith, d.due))
 
 -- CR LF was used, and the next line comes
@@ -284,7 +287,8 @@ Trailers-whole limit before old after now body scanned end ends d = record {
     whole : IsChunked limit bytes (complete body total)
     whole = subst (λ (b : List ℕ). IsChunked limit bytes (complete b total)) (sym d.stands.body_is)
         (IsChunked-whole limit bytes d.chunks d.progress (d.stands.place + end) d.begins
-        (IsPart-last limit (length d.progress.body) d.progress.ahead d.stands.place end d.stands.line.ends d.stands.line.says ends_there))
+        (IsPart-last limit (length d.progress.body) d.progress.ahead d.stands.place end d.stands.line.ends
+        d.stands.line.says ends_there))
 
     rest : drop end now.buffer ≡ drop total bytes
     rest =
@@ -338,7 +342,8 @@ pub Trailers-long : (limit : ℕ) (before : Option (List ℕ)) (old : Intake) (a
     → LacksBody limit Chunked before old after now (faults.TooLong sections.Trailers max_trailers)
 Trailers-long limit before old after now body scanned none long d = record {
   come = d.come;
-  cause = found_lack limit before old after now body (stages.Trailers scanned) (too_long sections.Trailers max_trailers) d
+  cause = found_lack limit before old after now body (stages.Trailers scanned) (too_long sections.Trailers max_trailers)
+      d
       (IsPart-long_trailers limit
       (length d.progress.body) d.progress.ahead d.stands.place d.stands.line.ends d.stands.line.says
       (none_ends limit d.progress body now.buffer scanned d.stands none)

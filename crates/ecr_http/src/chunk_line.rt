@@ -15,7 +15,7 @@ pub(crate) fn line_end(bytes: &[u8]) -> Option<usize>
     ensures place { result ≡ line_end bytes.now }
 {
     let end = line_size(bytes);
-    if end < bytes.len() && end < MAX_CHUNK_LINE {
+    if end < bytes.len().min(MAX_CHUNK_LINE) {
         Some(end)
     } else {
         None

@@ -1,12 +1,12 @@
 // Bodies that come in chunks (RFC 9112, section 7.1). Places and sizes are in bytes.
-ghost use Rattle.std.specs.Prelude.{◌≡◌, ◌<◌, ◌≤◌, ◌+◌, ℕ, List, Option, Some, None, Err, length};
+ghost use Rattle.std.specs.Prelude.{◌≡◌, ◌<◌, ◌≤◌, ◌+◌, ℕ, List, Option, Some, None, Err, length, IfOk, OnErr};
 
 use crate::body::Taken;
 use crate::chunk_line::{MAX_CHUNK_LINE, is_closed, line_end, size_of};
 use crate::fault::Fault;
 use crate::head::find_end_within;
 use crate::intake::Intake;
-use ecr_model::Section;
+use ecr_model::{Mem, Section};
 use ecr_outside::Source;
 use std::alloc::Global;
 
@@ -176,28 +176,27 @@ impl Intake {
         ensures later { S.faults source.old ≤ S.faults source.new }
         ensures cause { result ≡ Err Fault.ReadFault → S.faults source.old < S.faults source.new }
     {
-        if left == 0 {
-            return self.close(source);
+        let due = self.move_data(body, left)?;
+        if due > 0 {
+            return self.read_on(source, Stage::Data(due));
         }
-        if self.buffer.len() == 0 {
-            return self.read_on(source, Stage::Data(left));
-        }
-        self.move_data(body, left)
+        self.close(source)
     }
 
-    // Moves what is there of a chunk's data to the body.
-    fn move_data(&mut self, body: &mut Vec<u8>, left: u64) -> Result<Option<Stage>, Fault>
-        requires some { 0 < left }
-        requires there { 0 < length self.old.buffer }
-        ensures goes_on { (limit : ℕ) (before after : Option (List ℕ)) (old : Intake)
+    // Moves what is there of a chunk's data to the body, and gives how many bytes of it are still due. After an `Err` all is
+    // as before.
+    fn move_data(&mut self, body: &mut Vec<u8>, left: u64) -> Result<u64, Mem>
+        ensures moved { IfOk result (λ due. (limit : ℕ) (before after : Option (List ℕ)) (old : Intake)
             → Decodes limit before old after self.old body.old.items (stage.Data left)
-            → DecodesOn limit before old after self.new body.new.items result }
-        ensures nearer { IsNearer result self.new (left_to_do (stage.Data left) self.old) }
-        ensures no_fault { result ≡ Err Fault.ReadFault → ⊥ }
+            → Decodes limit before old after self.new body.new.items (stage.Data due)) }
+        ensures used { IfOk result (λ due. 0 < due → length self.new.buffer ≡ 0) }
+        ensures no_farther { IfOk result (λ due.
+            left_to_do (stage.Data due) self.new ≤ left_to_do (stage.Data left) self.old) }
+        ensures err { OnErr result ((body.new.items ≡ body.old.items) × (self.new ≡ self.old)) }
     {
         let count = self.buffer.len().min(left as usize);
         self.buffer.move_to(body, count)?;
-        Ok(Some(Stage::Data(left - count as u64)))
+        Ok(left - count as u64)
     }
 
     // CR LF comes next, behind a chunk's data.

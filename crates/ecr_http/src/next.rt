@@ -10,6 +10,7 @@ use crate::buffer::Buffer;
 use crate::events::Event;
 use crate::fault::Fault;
 use crate::framing::{fits_limit, framing_of, max_body, waits};
+use crate::head::parse_head;
 use crate::intake::Intake;
 use crate::write::{Sent, send};
 use ecr_model::{Framing, Head, Request, Section, Text};
@@ -101,7 +102,9 @@ impl Intake {
         ensures write_cause { result ≡ Err Fault.WriteFault → K.faults sink.old < K.faults sink.new }
     {
         let count = self.find_head(source)?;
-        let head = self.parse(alloc, count)?;
+        let Some(head) = parse_head(alloc, &self.buffer.as_slice()[..count])? else {
+            return Err(Fault::Bad);
+        };
         self.with_head(alloc, head, count, source, sink)
     }
 

@@ -1,17 +1,16 @@
 // The head of the request that comes next.
-ghost use Rattle.std.specs.Prelude.{◌≡◌, ◌≢◌, ◌<◌, ◌≤◌, ℕ, List, Option, Some, None, Err, IfOk, IfErr, OnOk, length, take, false};
-ghost use Rattle.ecr_model.specs.http.Framing.{max_head, IsEnd, EndsAt, Parses};
+ghost use Rattle.std.specs.Prelude.{◌≡◌, ◌<◌, ◌≤◌, ℕ, List, Option, None, Err, OnOk, length};
+ghost use Rattle.ecr_model.specs.http.Framing.{max_head, EndsAt};
 ghost use Rattle.ecr_model.specs.http.Stream.{is_blank, blank_length};
 
 use crate::fault::Fault;
-use crate::head::{MAX_HEAD, find_end, parse_head};
+use crate::head::{MAX_HEAD, find_end};
 use crate::intake::Intake;
-use ecr_model::{Head, Section};
+use ecr_model::Section;
 use ecr_outside::Source;
-use std::alloc::Global;
 
 impl Intake {
-    ghost use Rattle.ecr_http.specs.NextHeads.{IsReady, IsRead, FindsHead, LooksOn, LacksRequest, past_front};
+    ghost use Rattle.ecr_http.specs.NextHeads.{IsReady, IsRead, FindsHead, LooksOn, past_front};
     ghost use Rattle.ecr_http.specs.Takings.{left_to_read};
 
     /// Reads through the next head, past the blank bytes before it, and gives how long the head is in bytes.
@@ -46,21 +45,6 @@ impl Intake {
         }
         self.scanned = self.buffer.len();
         self.fill(source)
-    }
-
-    /// The head of the first `count` bytes.
-    pub(crate) fn parse(&self, alloc: Global, count: usize) -> Result<Head, Fault>
-        requires ends { IsEnd max_head self.now.buffer count }
-        ensures parses { IfOk result (λ head. Parses (take count self.now.buffer) (Some head)) }
-        ensures lacks { IfErr result (λ fault. (left : Option (List ℕ))
-            → LacksRequest self.now.at self.now.buffer false left self.now.total fault) }
-        ensures no_read { result ≢ Err Fault.ReadFault }
-        ensures no_write { result ≢ Err Fault.WriteFault }
-    {
-        match parse_head(alloc, &self.buffer.as_slice()[..count])? {
-            Some(head) => Ok(head),
-            None => Err(Fault::Bad),
-        }
     }
 
     // Drops the blank bytes at the front.

@@ -180,6 +180,7 @@ read_with ts None h = tt
 read_with ts (Some (j, [])) h = omega (arith, ap length (h j [] refl), length-append (json_tokens j) [])
 read_with ts (Some (j, t ∷ r)) h = tt
 
+-- the size of what a text holds is at most one above the text's length
 pub read-size : (text : List ℕ) → AtMost size (suc (length text)) (read text)
 read-size text =
     AtMost-and_then (λ j. length (json_tokens j)) size (length (tokens text)) (suc (length text)) of_json

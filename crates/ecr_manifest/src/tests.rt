@@ -30,7 +30,7 @@ fn index(alloc: Global, manifests: &str) -> Result<String, Mem> {
 
 /// The facts, where the text isn't too long to be tried here.
 fn facts_of(alloc: Global, bytes: &[u8], media: Option<&str>) -> Result<Facts, ManifestRefusal> {
-    if bytes.len() > 4_000_000 {
+    if bytes.len() > 4_194_304 {
         return Err(ManifestRefusal::Mem);
     }
     read(alloc, bytes, media)
@@ -189,5 +189,17 @@ fn ten_thousand_entries_are_read(rt: HostRuntime) -> Result<(), Fail> {
     let text = index(rt.alloc(), manifests.as_str())?;
     let facts = facts_of(rt.alloc(), text.as_str().as_bytes(), None)?;
     assert_eq!(rt; facts.children.as_slice().len(), 2);
+    Ok(())
+}
+
+#[test]
+fn a_manifest_of_four_mebibytes_is_read(rt: HostRuntime) -> Result<(), Fail> {
+    let layers = format!(in rt.alloc(); "[{LAYER}]")?;
+    let mut text = image(rt.alloc(), CONFIG, layers.as_str())?;
+    for _ in text.len()..4_194_304 {
+        text.push_str(" ")?;
+    }
+    let facts = facts_of(rt.alloc(), text.as_str().as_bytes(), None)?;
+    assert_eq!(rt; facts.required.as_slice().len(), 2);
     Ok(())
 }

@@ -3,3 +3,4 @@ pub mod ScriptLaws
 pub mod StreamLaws
 pub mod SessionLaws
 pub mod JournalLaws
+pub mod CallerLaws

@@ -5,6 +5,7 @@ ghost use Rattle.ecr_model.specs.laws.SessionLaws.{AFixedMomentIsEach, OutputIsD
 ghost use Rattle.ecr_model.specs.laws.StreamLaws.{ACutChangesNothing, AnEndStays, BytesHaveAReading, RequestsAreDetermined};
 
 pub mod api;
+pub mod callers;
 pub mod crossing;
 pub mod journal;
 pub mod views;

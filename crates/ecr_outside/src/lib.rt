@@ -6,6 +6,7 @@
 
 mod clock;
 mod faults;
+mod gate;
 mod plan;
 mod real;
 mod sink;
@@ -13,6 +14,7 @@ mod source;
 mod told;
 
 pub use clock::{Clock, MemClock};
+pub use gate::{Gate, HoldGate, OpenGate, Stage};
 pub use real::{RealClock, RealSink, RealSource};
 pub use sink::{MemSink, Sink, Took};
 pub use source::{Got, MemSource, Source};

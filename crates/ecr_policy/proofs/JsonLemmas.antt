@@ -16,14 +16,17 @@ are_among-members_view names (e ∷ es) =
 
 pub ruleset members = (are_among-members_view)
 
+-- the number of a list's values
 pub number_of-items_view : (vs : List Value) → number_of (items_view vs) ≡ length vs
 number_of-items_view [] = refl
 number_of-items_view (v ∷ vs) = ap suc (number_of-items_view vs)
 
+-- the values of a list are prefixes where each is one
 pub are_prefixes-items_view : (vs : List Value) → are_prefixes (items_view vs) ≡ list_all (λ v. is_prefix (view v)) vs
 are_prefixes-items_view [] = refl
 are_prefixes-items_view (v ∷ vs) = ap (λ b. is_prefix (view v) && b) (are_prefixes-items_view vs)
 
+-- a list of rules has a rule for each of its values
 pub length-rules_of : (vs : List Value) → length (rules_of (items_view vs)) ≡ length vs
 length-rules_of [] = refl
 length-rules_of (v ∷ vs) = ap suc (length-rules_of vs)

@@ -1,4 +1,5 @@
 use crate::{PolicyRefusal, read};
+use ecr_model::{Choose, Count, Rule, Text};
 use std::alloc::{AllocError, Global};
 use std::test::Fail;
 
@@ -158,6 +159,61 @@ fn numbers_and_sets_of_prefixes_are_compared(rt: HostRuntime) -> Result<(), Fail
         let second = tagged(alloc, "2", *other)?;
         let text = policy(alloc, &[first.as_str(), second.as_str()])?;
         assert_eq!(rt; told(alloc, text.as_str())?.1, *cause, "{list} {other}");
+    }
+    Ok(())
+}
+
+/// The list of 99 times the text `a` and then that one.
+fn hundred(alloc: Global, last: usize) -> Result<String, AllocError> {
+    let list = around(alloc, "[", "\"a\",", 99, "")?;
+    format!(in alloc; "{list}\"p{last}\"]")
+}
+
+/// How many of the texts are that one.
+fn count_of(texts: &[Text], text: &[u8]) -> usize {
+    let mut count = 0usize;
+    for other in texts {
+        if other.as_bytes() == text {
+            count = count.saturating_add(1);
+        }
+    }
+    count
+}
+
+/// Whether the rule has that number, a hundred prefixes, of which 99 are `a` and one is the last, and a count of one image.
+fn is_hundred(rule: &Rule, number: u32, last: &str) -> bool {
+    let Choose::Prefixes(texts) = &rule.choose else {
+        return false;
+    };
+    let texts = texts.as_slice();
+    let ones = count_of(texts, b"a");
+    let lasts = count_of(texts, last.as_bytes());
+    let counts = rule.count == Count::MoreThan(1);
+    rule.priority == number && counts && texts.len() == 100 && ones == 99 && lasts == 1
+}
+
+#[test]
+fn fifty_rules_of_a_hundred_prefixes_are_read(rt: HostRuntime) -> Result<(), Fail> {
+    let alloc = rt.alloc();
+    let mut text = String::from_str(alloc, "{\"rules\":[")?;
+    for number in 1..51usize {
+        let digits = format!(in alloc; "{}", 51 - number)?;
+        let list = hundred(alloc, 51 - number)?;
+        if number > 1 {
+            text.push_str(",")?;
+        }
+        text.push_str(tagged(alloc, digits.as_str(), list.as_str())?.as_str())?;
+    }
+    text.push_str("]}")?;
+    let text = padded(alloc, text.as_str(), 30720)?;
+    let Ok(policy) = read(alloc, text.as_str()) else {
+        return Err(AllocError.into());
+    };
+    assert!(rt; policy.text.as_bytes() == text.as_bytes());
+    assert_eq!(rt; policy.rules.as_slice().len(), 50);
+    for (at, rule) in policy.rules.as_slice().iter().enumerate() {
+        let last = format!(in alloc; "p{}", at + 1)?;
+        assert!(rt; is_hundred(rule, (at + 1) as u32, last.as_str()), "{at}");
     }
     Ok(())
 }

@@ -80,7 +80,8 @@ site_in-served : (base : SiteId) (served : List SiteId) (values : List Valued) â
     â†’ Contains served (site_in base served values)
 site_in-served base served values at =
     Contains-or served base (option_and_then (site_of_account base served) (text_of_parameter RegistryId values))
-    (Contains-then served (text_of_parameter RegistryId values) (site_of_account base served) (site_of_account-served base served))
+    (Contains-then served (text_of_parameter RegistryId values) (site_of_account base served)
+    (site_of_account-served base served))
     at
 
 -- ---- the first place of a page

@@ -68,24 +68,25 @@ ends_by : (set : SettingOf DeskState) (before mid after : Outside) (point : Poin
     → Appends mid.held after.held (last_words tail) → Ends end tail.ending (length (s.read ++ got))
     → bytes_read (grown point got) ≤ max_read → IsUnspent end tail.ending (length (s.read ++ got))
     → CompletedBy IsServedOver set before after account last end
-ends_by set before mid after point account last s got over tail end opened told consumed lacks at_end sent fits within unspent = record {
-  read = s.read ++ got;
-  over = over;
-  exchanges = s.exchanges;
-  tail = tail;
-  consumed = Consumes-trans before.left mid.left after.left s.read got s.consumed consumed;
-  at_end = at_end;
-  reads = record {
-    point = grown point got;
-    begins = begins_grown s.read got (requests_of s.exchanges) point s.begins;
-    stops = subst (λ (shut : Bool). StopsBy shut over (grown point got) tail) (sym opened) lacks;
-  };
-  serviced = serviced_kept set before mid after s.exchanges account last told s.serviced;
-  sent = Appends-trans before.held mid.held after.held (sent_to s.exchanges) (last_words tail) s.sent sent;
-  ends = fits;
-  within = within_grown s.read got (requests_of s.exchanges) point s.begins within;
-  unspent = unspent;
-}
+ends_by set before mid after point account last s got over tail end opened told consumed lacks at_end sent fits within
+    unspent = record {
+      read = s.read ++ got;
+      over = over;
+      exchanges = s.exchanges;
+      tail = tail;
+      consumed = Consumes-trans before.left mid.left after.left s.read got s.consumed consumed;
+      at_end = at_end;
+      reads = record {
+        point = grown point got;
+        begins = begins_grown s.read got (requests_of s.exchanges) point s.begins;
+        stops = subst (λ (shut : Bool). StopsBy shut over (grown point got) tail) (sym opened) lacks;
+      };
+      serviced = serviced_kept set before mid after s.exchanges account last told s.serviced;
+      sent = Appends-trans before.held mid.held after.held (sent_to s.exchanges) (last_words tail) s.sent sent;
+      ends = fits;
+      within = within_grown s.read got (requests_of s.exchanges) point s.begins within;
+      unspent = unspent;
+    }
 
 -- where nothing is replied to what follows
 ends_silently : (set : SettingOf DeskState) (before mid after : Outside) (point : Point) (account : Account)
@@ -96,7 +97,8 @@ ends_silently : (set : SettingOf DeskState) (before mid after : Outside) (point 
     → (over ≡ true → IsAtEnd after.left) → Ends end ending (length (s.read ++ got))
     → bytes_read (grown point got) ≤ max_read → IsUnspent end ending (length (s.read ++ got))
     → CompletedBy IsServedOver set before after account last end
-ends_silently set before mid after point account last s got over ending end opened told consumed shows none at_end fits within unspent =
+ends_silently set before mid after point account last s got over ending end opened told consumed shows none at_end fits
+    within unspent =
     ends_by set before mid after point account last s got over
     (record { due = shows.0; ending = ending }) end opened told consumed shows.1 at_end
     (subst (λ l. Appends mid.held after.held (interim shows.0 ++ l)) (sym none)
@@ -111,7 +113,9 @@ pub Serves-whole : (set : SettingOf DeskState) (before mid after : Outside) (poi
     → point.closed ≡ false → Nexts mid.left mid.held point after.left after.held q events.End → after.told ≡ mid.told
     → ServesOver set before after account last ends.Whole
 Serves-whole set before mid after point q account last s opened n told =
-    ends_silently set before mid after point account last s n.got true ended ends.Whole opened told n.consumed n.gives.0 refl (λ e. n.gives.1) (inl refl) n.within (unspent_grown s.read n.got (requests_of s.exchanges) point s.begins n.unspent)
+    ends_silently set before mid after point account last s n.got true ended ends.Whole opened told n.consumed n.gives.0
+    refl (λ e. n.gives.1) (inl refl) n.within
+    (unspent_grown s.read n.got (requests_of s.exchanges) point s.begins n.unspent)
 
 -- an input that ends within a request ends the session with Truncated
 pub Serves-truncated : (set : SettingOf DeskState) (before mid after : Outside) (point q : Point) (account : Account)
@@ -132,7 +136,9 @@ pub Serves-fault : (set : SettingOf DeskState) (before mid after : Outside) (poi
 Serves-fault set before mid after point q account last s opened n told rose =
     let later = s.reads_later in (
       omega arith,
-      ends_silently set before mid after point account last s n.got false more ends.ReadFault opened told n.consumed n.gives refl not_over refl n.within (unspent_grown s.read n.got (requests_of s.exchanges) point s.begins n.unspent),
+      ends_silently set before mid after point account last s n.got false more ends.ReadFault opened told n.consumed
+          n.gives refl not_over refl n.within
+          (unspent_grown s.read n.got (requests_of s.exchanges) point s.begins n.unspent),
     )
 
 -- where all that may be read was read, the session ends with Spent
@@ -145,7 +151,8 @@ Serves-spent set before mid after point q account last s opened n told =
     (begins_grown s.read n.got (requests_of s.exchanges) point s.begins) in
     let spent = n.gives.1 in
     let size : length (s.read ++ n.got) ≡ max_read = omega arith in
-    ends_silently set before mid after point account last s n.got false more ends.Spent opened told n.consumed n.gives.0 refl not_over (refl, size) n.within tt
+    ends_silently set before mid after point account last s n.got false more ends.Spent opened told n.consumed n.gives.0
+    refl not_over (refl, size) n.within tt
 
 -- ---- no memory
 
@@ -314,7 +321,8 @@ pub Serves-long : (set : SettingOf DeskState) (before mid between after : Outsid
     → SendsLast between.held after.held (long_reply section) (ends.TooLong at limit) end
     → mid.write_faults ≤ between.write_faults → (end ≡ ends.WriteFault → between.write_faults < after.write_faults)
     → ServesOver set before after account last end
-Serves-long set before mid between after point q account last at section limit end s opened n left told sends later cause =
+Serves-long set before mid between after point q account last at section limit end s opened n left told sends
+    later cause =
     let so_far = s.writes_later in
     serves_refused set before between after account last (ends.TooLong at limit) end (λ done. done) (omega arith) cause
     (refused set before mid between after point account last s n.got (long_at at section limit)

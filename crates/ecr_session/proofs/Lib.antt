@@ -1,8 +1,10 @@
 pub mod AnswerLemmas
+pub mod AmongLemmas
 pub mod AskLemmas
 pub mod EndLemmas
 pub mod FreshLemmas
 pub mod HostLemmas
+pub mod MoveLemmas
 pub mod ServingLemmas
 pub mod StartLemmas
 pub mod StillLemmas

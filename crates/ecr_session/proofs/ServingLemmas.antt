@@ -113,19 +113,20 @@ Answers-realm before after moment request contents bytes places cut (inl a) = a.
 Answers-realm before after moment request contents bytes places cut (inr f) = f.stopped.realm_stays
 
 -- an answer, with its moment and its reply as bytes, is an exchange
-pub AddsExchange-by : (fixed : Option ℕ) (request : Request) (before after : Outside) (old now : Session)
+pub AddsExchange-by : (fixed : Option ℕ) (request : Request) (before after : Outside) (old added now : Session)
     (seen later : DeskState) (sent : Sent)
     (moment : ℕ) (reply : Option HttpReply) (places : List Place) (cut : Cut)
     → IsTime fixed before.told after.told moment
     → ((contents : List (List ℕ)) × Answers seen later moment request contents
     (reply_bytes (is_head request) (closes request) reply) places cut)
-    → now.moments.items ≡ old.moments.items ++ moment ∷ []
-    → map (λ v. v.items) now.places.items ≡ map (λ v. v.items) old.places.items ++ places ∷ []
-    → now.cuts.items ≡ old.cuts.items ++ cut ∷ []
-    → now.reader ≡ old.reader → after.left ≡ before.left
+    → added.moments.items ≡ old.moments.items ++ moment ∷ []
+    → map (λ v. v.items) added.places.items ≡ map (λ v. v.items) old.places.items ++ places ∷ []
+    → added.cuts.items ≡ old.cuts.items ++ cut ∷ []
+    → added.reader ≡ old.reader → now ≡ added → after.left ≡ before.left
     → Sends before.held after.held (reply_bytes (is_head request) (closes request) reply) sent
     → AddsExchange fixed request before old seen after now later sent
-AddsExchange-by fixed request before after old now seen later sent moment reply places cut timed a moments lists cuts reader left sends =
+AddsExchange-by fixed request before after old added now seen later sent moment reply places cut timed a moments lists
+    cuts reader kept left sends =
     let bytes : List ℕ = reply_bytes (is_head request) (closes request) reply in
     let e : Exchange = record {
       request = request;
@@ -135,7 +136,7 @@ AddsExchange-by fixed request before after old now seen later sent moment reply 
       contents = a.0;
       bytes = bytes;
     } in
-    record {
+    subst (λ (s : Session). AddsExchange fixed request before old seen after s later sent) (sym kept) (record {
       exchange = e;
       request_is = refl;
       served = record {
@@ -144,11 +145,11 @@ AddsExchange-by fixed request before after old now seen later sent moment reply 
         timed = timed;
         answers = a.1;
       };
-      added = account_in-pushed old now e moments lists cuts;
+      added = account_in-pushed old added e moments lists cuts;
       reader = reader;
       left = left;
       sends = sends;
-    }
+    })
 
 -- all of the reply was sent
 HasCome-serviced : (set : SettingOf DeskState) (before mid between after : Outside) (point : Point)
@@ -236,14 +237,16 @@ pub GoesOn-request : (set : SettingOf DeskState) (before mid between after : Out
     → between.write_faults ≤ after.write_faults
     → (end ≡ Some ends.WriteFault → between.write_faults < after.write_faults)
     → GoesOn set before after now later end
-GoesOn-request set before mid between after point old now seen later request None realm s opened n told v reads told_later writes cause = (
-  HasCome-serviced set before mid between after point old now seen later request realm s opened n told v.0 reads
-      (omega arith),
-  ap (λ (x : Point). x.closed) (v.0.reader ∙ n.gives.2) ∙ v.1,
-)
+GoesOn-request set before mid between after point old now seen later request None realm s opened n told v reads
+    told_later writes cause = (
+      HasCome-serviced set before mid between after point old now seen later request realm s opened n told v.0 reads
+          (omega arith),
+      ap (λ (x : Point). x.closed) (v.0.reader ∙ n.gives.2) ∙ v.1,
+    )
 GoesOn-request set before mid between after point old now seen later request
     (Some ends.Whole) realm s opened n told v reads told_later writes cause =
-    let come = HasCome-serviced set before mid between after point old now seen later request realm s opened n told v.0 reads (omega arith) in
+    let come = HasCome-serviced set before mid between after point old now seen later request realm s opened n told v.0
+    reads (omega arith) in
     record {
       realm_stays = come.realm_stays;
       serves = Completed-closed set before after now.reader (account_in now) later come.so_far
@@ -255,7 +258,11 @@ GoesOn-request set before mid between after point old now seen later request
     let so_far = s.writes_later in
     record {
       realm_stays = v.served.realm_stays ∙ realm;
-      serves = (omega arith, CutOff-serviced set before mid between after point old now seen later request realm s opened n told v);
+      serves = (
+        omega arith,
+        CutOff-serviced set before mid between after point old now seen later request realm s
+            opened n told v,
+      );
     }
 GoesOn-request set before mid between after point old now seen later request
     (Some _) realm s opened n told v reads told_later writes cause = absurd v

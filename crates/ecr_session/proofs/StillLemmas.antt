@@ -1,29 +1,29 @@
 -- A session over a desk whose caller is alone is one of one caller over its own journals.
 use Rattle.std.proofs.Common.{◌≡◌, ◌≤◌, ◌∙◌, inl, inr, ℕ, Bool, true, false, List, [], ◌∷◌, ◌++◌, map, sym, ap, subst, append-nil, append_assoc, arith}
-use Rattle.std.proofs.lemmas.Bool.{cond-true, cond-false}
 use Rattle.ecr_model.specs.declared.http.Request.{Request}
 use Rattle.ecr_model.specs.declared.registry.journal.Place.{Place}
 use Rattle.ecr_model.specs.declared.outcome.Cut.{Cut}
 use Rattle.ecr_model.specs.declared.outcome.End.{End}
-use Rattle.ecr_model.specs.declared.outcome.End.TheVariants as ends
 use Rattle.ecr_model.specs.registry.Content.{content_digest}
 use Rattle.ecr_model.specs.registry.Contents.{named_by}
 use Rattle.ecr_model.specs.requests.Posed.{posed_of, posed_bytes}
 use Rattle.ecr_model.specs.http.Replies.{failed_reply, is_head}
 use Rattle.ecr_model.specs.requests.Requests.{Decided}
 use Rattle.ecr_model.specs.registry.Scripts.{Realm, World, run_to, count_changed}
-use Rattle.ecr_model.specs.sessions.Sessions.{Account, AnsweredBy, Answered, Chain, CompletedBy, Completed, Counts, CutOffBy, CutOff, Exchange, IsPlaced, IsServed, Outside, Serves, ServicedBy, Serviced, Setting, SettingOf, Standing, StandingOf, left_by, named_to, outcome_of, script_of, stands, written}
+use Rattle.ecr_model.specs.sessions.Sessions.{Account, Chain, Counts, Exchange, IsPlaced, IsServed, Outside, Serves, ServicedBy, Serviced, Setting, SettingOf, Standing, StandingOf, left_by, named_to, outcome_of, script_of, stands, written}
 use Rattle.ecr_model.specs.http.Stream.{closes}
 use Rattle.ecr_model.specs.registry.Views.{places_of}
 use Rattle.ecr_model.proofs.lemmas.registry.ScriptLemmas.{count_changed-append, count_changed-run}
+use Rattle.ecr_model.proofs.lemmas.sessions.SessionLemmas.{left_by-failed, left_by-served, named_to-failed, named_to-served, written-failed, written-served}
 use Rattle.ecr_desk.specs.Desks.{DeskState, StillState, still_of, IsStill, run_on, Runs, RunsTo}
 use Rattle.ecr_desk.proofs.DeskLemmas.{Ran-runs, Stopped-runs_to, Stopped-still, first_places-le}
 use Rattle.ecr_session.specs.Serving.{Answers, IsAnswered, IsFailed, IsServedOver, ServesOver}
+use Rattle.ecr_session.proofs.MoveLemmas.{ServesBy-moves}
 
 -- ---- one request
 
--- the reply with its content, as bytes, the places and the cut are those of the request, and what is on the desk afterwards
--- is what it leaves
+-- the reply with its content, as bytes, the places and the cut are those of the request, and what is on the desk
+-- afterwards is what it leaves
 record AnswersAlone (before after : StillState) (moment : ℕ) (request : Request) (contents : List (List ℕ))
     (bytes : List ℕ) (places : List Place) (cut : Cut) : Type 0 where
   carries : map content_digest contents ≡ named_to before.realm before.world moment cut request
@@ -36,39 +36,6 @@ record AnswersAlone (before after : StillState) (moment : ℕ) (request : Reques
 -- a request that was served didn't fail
 not_failed : (b : Bool) → b ≡ true → b ≡ false → ⊥
 not_failed b is other = absurd (let no : true ≡ false = sym is ∙ other in cc)
-
--- what is written, and what is left, where it didn't fail
-written-served : (realm : Realm) (world : World) (moment : ℕ) (cut : Cut) (request : Request)
-    (contents : List (List ℕ)) → cut.failed ≡ false
-    → written realm world moment cut request contents ≡ posed_bytes (posed_of realm.served request) (closes request)
-    (outcome_of realm world moment request).answer.reply contents
-unfolding written
-written-served realm world moment cut request contents served = cond-false cut.failed _ _ served
-
-named_to-served : (realm : Realm) (world : World) (moment : ℕ) (cut : Cut) (request : Request) → cut.failed ≡ false
-    → named_to realm world moment cut request ≡ named_by (outcome_of realm world moment request).answer.reply
-named_to-served realm world moment cut request served = cond-false cut.failed _ _ served
-
-left_by-served : (realm : Realm) (world : World) (moment : ℕ) (cut : Cut) (request : Request) → cut.failed ≡ false
-    → left_by realm world moment cut request ≡ (outcome_of realm world moment request).world
-unfolding left_by
-left_by-served realm world moment cut request served = cond-false cut.failed _ _ served
-
--- where it did
-written-failed : (realm : Realm) (world : World) (moment : ℕ) (cut : Cut) (request : Request)
-    (contents : List (List ℕ)) → cut.failed ≡ true
-    → written realm world moment cut request contents ≡ failed_reply (is_head request) (closes request)
-unfolding written
-written-failed realm world moment cut request contents failed = cond-true cut.failed _ _ failed
-
-named_to-failed : (realm : Realm) (world : World) (moment : ℕ) (cut : Cut) (request : Request) → cut.failed ≡ true
-    → named_to realm world moment cut request ≡ []
-named_to-failed realm world moment cut request failed = cond-true cut.failed _ _ failed
-
-left_by-failed : (realm : Realm) (world : World) (moment : ℕ) (cut : Cut) (request : Request) → cut.failed ≡ true
-    → left_by realm world moment cut request ≡ run_to cut.entries realm world (script_of realm moment request)
-unfolding left_by
-left_by-failed realm world moment cut request failed = cond-true cut.failed _ _ failed
 
 AnswersAlone-answered : (before after : DeskState) (moment : ℕ) (request : Request) (contents : List (List ℕ))
     (bytes : List ℕ) (places : List Place) (cut : Cut)
@@ -231,83 +198,11 @@ Serviced-still set before after es account last is s = record {
       (record { realm_is = is.realm_is; still = is.still }) s.served;
 }
 
-Answered-still : (set : SettingOf DeskState) (before after : Outside) (account : Account) (last : DeskState)
-    → IsSetStill set
-    → AnsweredBy IsServedOver set before after account last
-    → Answered (still_setting set) before after account (still_of last).world
-Answered-still set before after account last is s = record {
-  read = s.read;
-  exchanges = s.exchanges;
-  point = s.point;
-  further = s.further;
-  consumed = s.consumed;
-  within = s.within;
-  begins = s.begins;
-  goes_on = s.goes_on;
-  serviced = Serviced-still set before after s.exchanges account last is s.serviced;
-  told_to = s.told_to;
-  sent = s.sent;
-}
-
-Completed-still : (set : SettingOf DeskState) (before after : Outside) (account : Account) (last : DeskState)
-    (end : End) → IsSetStill set
-    → CompletedBy IsServedOver set before after account last end
-    → Completed (still_setting set) before after account (still_of last).world end
-Completed-still set before after account last end is s = record {
-  read = s.read;
-  over = s.over;
-  exchanges = s.exchanges;
-  tail = s.tail;
-  consumed = s.consumed;
-  within = s.within;
-  at_end = s.at_end;
-  reads = s.reads;
-  serviced = Serviced-still set before after s.exchanges account last is s.serviced;
-  sent = s.sent;
-  ends = s.ends;
-  unspent = s.unspent;
-}
-
-CutOff-still : (set : SettingOf DeskState) (before after : Outside) (account : Account) (last : DeskState)
-    → IsSetStill set
-    → CutOffBy IsServedOver set before after account last
-    → CutOff (still_setting set) before after account (still_of last).world
-CutOff-still set before after account last is s = record {
-  read = s.read;
-  exchanges = s.exchanges;
-  point = s.point;
-  done = s.done;
-  piece = s.piece;
-  taken = s.taken;
-  lost = s.lost;
-  consumed = s.consumed;
-  within = s.within;
-  begins = s.begins;
-  serviced = Serviced-still set before after s.exchanges account last is s.serviced;
-  is_last = s.is_last;
-  parts = s.parts;
-  some = s.some;
-  sent = s.sent;
-}
-
 -- however it ended
 pub Serves-still : (set : SettingOf DeskState) (before after : Outside) (account : Account) (last : DeskState)
     (end : End) → IsSetStill set
     → ServesOver set before after account last end
     → Serves (still_setting set) before after account (still_of last).world end
-Serves-still set before after account last ends.Usage is s = s
-Serves-still set before after account last ends.Mem is s = Answered-still set before after account last is s
-Serves-still set before after account last ends.ReadFault is s =
-    (s.0, Completed-still set before after account last ends.ReadFault is s.1)
-Serves-still set before after account last ends.WriteFault is s =
-    (s.0, CutOff-still set before after account last is s.1)
-Serves-still set before after account last ends.Whole is s =
-    Completed-still set before after account last ends.Whole is s
-Serves-still set before after account last (ends.Truncated at) is s =
-    Completed-still set before after account last (ends.Truncated at) is s
-Serves-still set before after account last (ends.Bad at) is s =
-    Completed-still set before after account last (ends.Bad at) is s
-Serves-still set before after account last (ends.TooLong at limit) is s =
-    Completed-still set before after account last (ends.TooLong at limit) is s
-Serves-still set before after account last ends.Spent is s =
-    Completed-still set before after account last ends.Spent is s
+Serves-still set before after account last end is s =
+    ServesBy-moves IsServedOver IsServed set (still_setting set) before after account last (still_of last).world
+    (λ es. Serviced-still set before after es account last is) end s

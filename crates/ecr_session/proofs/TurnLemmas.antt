@@ -123,6 +123,7 @@ StoppedWith-then before mid after script next a old more now one other = record 
 
 -- ---- a whole script, turn by turn
 
+-- after the turns of a script its answer decides how it goes on
 pub LeadsTo-then : {A B : Type 0} (before now next_seen : DeskState) (whole : Script B) (script : Script A)
     (next : A → Script B) (a : A) (old places more : List Place)
     → LeadsTo before now whole (then_do script next) old places → RanWith now next_seen script a places more
@@ -202,7 +203,8 @@ pub RanWith-named_refused : (before now after : DeskState) (whole : Script Reply
     → LeadsTo before now whole (named_script s moment rows (drop i names)) old places
     → IsDescribed now after s name moment rows rows_after (Some refusal) places more
     → RanWith before after whole (Refused refusal) old more
-RanWith-named_refused before now after whole s moment rows rows_after names i name refusal old places more inside is to d =
+RanWith-named_refused before now after whole s moment rows rows_after names i name refusal old places more
+    inside is to d =
     (subst (λ rest. LeadsTo before after whole rest old more)
     (named_step-refused s moment rows (drop (i + 1) names) d.decided.reply refusal d.refused)
     (LeadsTo-named before now after whole s moment rows rows_after names i name
@@ -222,6 +224,7 @@ StoppedWith-named before now after whole s moment rows names i name old places m
     (StoppedWith-first now after (one_script s moment name)
     (after_one s moment rows (drop (i + 1) names)) places more stopped))
 
+-- past the last name the descriptions are the reply
 pub RanWith-named_end : (before now : DeskState) (whole : Script Reply) (s : SiteId) (moment : ℕ) (rows : List Row)
     (names : List Name) (i : ℕ) (old places : List Place)
     → length names ≤ i → LeadsTo before now whole (named_script s moment rows (drop i names)) old places
@@ -249,7 +252,8 @@ pub LeadsTo-listed : (before now after : DeskState) (whole : Script Reply) (s : 
     → IsDescribed now after s name moment rows rows_after refusal places more
     → LeadsTo before after whole (listed_script s moment next rows_after (drop (i + 1) names)) old more
 unfolding listed_script
-LeadsTo-listed before now after whole s moment next rows rows_after names i name refusal old places more inside is to d =
+LeadsTo-listed before now after whole s moment next rows rows_after names i name refusal old places more
+    inside is to d =
     subst (λ r. LeadsTo before after whole (listed_script s moment next r (drop (i + 1) names)) old more) (sym d.rows)
     (LeadsTo-then before now after whole (one_script s moment name)
     (λ d. listed_script s moment next (rows ++ rows_in d.reply) (drop (i + 1) names)) d.decided old places more
@@ -269,6 +273,7 @@ StoppedWith-listed before now after whole s moment next rows names i name old pl
     (StoppedWith-first now after (one_script s moment name)
     (λ d. listed_script s moment next (rows ++ rows_in d.reply) (drop (i + 1) names)) places more stopped))
 
+-- past the last name of a page its descriptions are the reply
 pub RanWith-listed_end : (before now : DeskState) (whole : Script Reply) (s : SiteId) (moment : ℕ) (next : Option ℕ)
     (rows : List Row) (names : List Name) (i : ℕ) (old places : List Place)
     → length names ≤ i → LeadsTo before now whole (listed_script s moment next rows (drop i names)) old places

@@ -6,10 +6,15 @@
 
 mod answer;
 mod describe;
+mod ending;
 mod fixed;
 mod host;
 mod session;
+mod shared;
+mod stages;
 mod still;
 mod turns;
 
-pub use still::{Mode, SessionEnd, session_still};
+pub use ending::{Mode, SessionEnd};
+pub use shared::serve_session;
+pub use still::session_still;

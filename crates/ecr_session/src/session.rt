@@ -3,11 +3,12 @@ ghost use Rattle.ecr_model.specs.sessions.Sessions.{IsTime};
 
 use crate::answer::answer_request;
 use crate::fixed::{bad_reply, is_head, long_reply};
+use crate::stages::Stages;
 use ecr_desk::AnyDesk;
 use ecr_errors::fixed_500;
 use ecr_http::{Event, HttpReply, Reader, Sent, closes};
 use ecr_model::{Cut, End, Mem, Moment, Place, Request};
-use ecr_outside::{Clock, Sink, Source};
+use ecr_outside::{Clock, Sink, Source, Stage};
 use json::Scratch;
 use std::alloc::Global;
 
@@ -46,8 +47,8 @@ impl Session {
     }
 
     /// Serves requests until the session ends, and says how. Their moment is the fixed one, or else each time the clock's.
-    /// Their bodies are read by the scratch.
-    pub(crate) fn run<D: AnyDesk, S: Source, K: Sink, C: Clock>(
+    /// Their bodies are read by the scratch. The stages of each are passed.
+    pub(crate) fn run<D: AnyDesk, S: Source, K: Sink, C: Clock, G: Stages>(
         &mut self,
         alloc: Global,
         scratch: &mut Scratch,
@@ -56,6 +57,7 @@ impl Session {
         source: &mut S,
         sink: &mut K,
         clock: &mut C,
+        stages: &G,
     ) -> End
         requires fresh { IsFresh self.old }
         requires some { 0 < length (D.seen desk.old).realm.served }
@@ -67,7 +69,9 @@ impl Session {
         ensures counted { (D.seen desk.new).made ≡ (D.seen desk.old).made + entries_in self.new.cuts.items }
     {
         loop {
-            if let Some(end) = self.take_turn(alloc, scratch, desk, fixed, source, sink, clock) {
+            if let Some(end) = self.take_turn(
+                alloc, scratch, desk, fixed, source, sink, clock, stages,
+            ) {
                 return end;
             }
         }
@@ -75,7 +79,7 @@ impl Session {
 
     // Serves what comes next of the source. The room for what is said of it is taken first: where there is none, nothing is
     // read.
-    fn take_turn<D: AnyDesk, S: Source, K: Sink, C: Clock>(
+    fn take_turn<D: AnyDesk, S: Source, K: Sink, C: Clock, G: Stages>(
         &mut self,
         alloc: Global,
         scratch: &mut Scratch,
@@ -84,6 +88,7 @@ impl Session {
         source: &mut S,
         sink: &mut K,
         clock: &mut C,
+        stages: &G,
     ) -> Option<End>
         requires opened { self.old.reader.closed ≡ false }
         requires some { 0 < length (D.seen desk.old).realm.served }
@@ -104,13 +109,18 @@ impl Session {
         }
         match self.reader.next(alloc, source, sink) {
             Event::Request(request) => {
-                self.serve(alloc, scratch, desk, fixed, &request, sink, clock)
+                self.serve(alloc, scratch, desk, fixed, &request, sink, clock, stages)
             }
             Event::End => Some(End::Whole),
             Event::Truncated(at) => Some(End::Truncated { at }),
-            Event::Bad(at) => Some(self.refuse(sink, bad_reply(), End::Bad { at })),
+            Event::Bad(at) => Some(self.refuse(sink, stages, bad_reply(), End::Bad { at })),
             Event::TooLong { at, section, limit } => {
-                Some(self.refuse(sink, long_reply(section), End::TooLong { at, limit }))
+                Some(self.refuse(
+                    sink,
+                    stages,
+                    long_reply(section),
+                    End::TooLong { at, limit },
+                ))
             }
             Event::ReadFault => Some(End::ReadFault),
             Event::WriteFault => Some(End::WriteFault),
@@ -132,7 +142,7 @@ impl Session {
     }
 
     // Answers one request, and sends the reply. What is said of it has its room.
-    fn serve<D: AnyDesk, K: Sink, C: Clock>(
+    fn serve<D: AnyDesk, K: Sink, C: Clock, G: Stages>(
         &mut self,
         alloc: Global,
         scratch: &mut Scratch,
@@ -141,6 +151,7 @@ impl Session {
         request: &Request,
         sink: &mut K,
         clock: &mut C,
+        stages: &G,
     ) -> Option<End>
         requires some { 0 < length (D.seen desk.old).realm.served }
         requires room { HasRoom self.old }
@@ -154,6 +165,7 @@ impl Session {
         ensures cause { result ≡ Some End.WriteFault → K.faults sink.old < K.faults sink.new }
     {
         let moment = moment_of(fixed, clock);
+        stages.at(Stage::InCall);
         let answer = answer_request(alloc, scratch, desk, moment, request);
         self.moments.push_reserved(moment);
         self.places.push_reserved(answer.places);
@@ -161,6 +173,7 @@ impl Session {
         match self.send(sink, &answer.reply, request) {
             Sent::WriteFault => Some(End::WriteFault),
             Sent::Done => {
+                stages.at(Stage::Answered);
                 if closes(request) {
                     Some(End::Whole)
                 } else {
@@ -188,7 +201,13 @@ impl Session {
     }
 
     // Sends the reply to what is no request, after which the session ends like that.
-    fn refuse<K: Sink>(&mut self, sink: &mut K, reply: &[u8], last: End) -> End
+    fn refuse<K: Sink, G: Stages>(
+        &mut self,
+        sink: &mut K,
+        stages: &G,
+        reply: &[u8],
+        last: End,
+    ) -> End
         requires { last ≢ End.WriteFault }
         ensures sends { SendsLast (K.held sink.old) (K.held sink.new) reply.now last result }
         ensures kept { self.new ≡ self.old }
@@ -196,7 +215,10 @@ impl Session {
         ensures cause { result ≡ End.WriteFault → K.faults sink.old < K.faults sink.new }
     {
         match self.reader.send_fixed(sink, reply) {
-            Sent::Done => last,
+            Sent::Done => {
+                stages.at(Stage::Answered);
+                last
+            }
             Sent::WriteFault => End::WriteFault,
         }
     }

@@ -4,36 +4,15 @@ ghost use Rattle.ecr_model.specs.laws.SessionLaws.{all_places};
 ghost use Rattle.ecr_model.specs.sessions.Sessions.{Account, Outside, Serves, Setting};
 ghost use Rattle.ecr_model.specs.registry.Soundness.{AreFresh};
 ghost use Rattle.ecr_desk.specs.Desks.{still_of};
-ghost use Rattle.ecr_session.specs.Serving.{account_in, entries_in};
+ghost use Rattle.ecr_session.specs.Serving.{entries_in};
 
+use crate::ending::{Mode, SessionEnd, ended, unbegun};
 use crate::session::Session;
+use crate::stages::Unwatched;
 use ecr_desk::StillDesk;
-use ecr_model::{Cut, End, Moment, Place};
 use ecr_outside::{Clock, Sink, Source};
 use json::Scratch;
 use std::alloc::Global;
-
-/// How a session is served.
-#[derive(Clone, Copy)]
-pub struct Mode {
-    /// Whether requests of control are served, which none is yet.
-    pub control: bool,
-    /// The moment of each request, in seconds; without it the clock is asked once for each.
-    pub fixed: Option<Moment>,
-}
-
-/// How a session ended, and what it says of its requests: one moment, one list of places and one cut for each that was
-/// answered.
-#[derive(Drop)]
-pub struct SessionEnd<P> {
-    /// That of a caller of several, where there is one.
-    pub pass: P,
-    /// In seconds.
-    pub moments: Vec<Moment>,
-    pub places: Vec<Vec<Place>>,
-    pub cuts: Vec<Cut>,
-    pub end: End,
-}
 
 /// Serves the requests of the source by the desk until the session ends, and says how.
 ///
@@ -68,42 +47,20 @@ pub fn session_still<D: StillDesk, S: Source, K: Sink, C: Clock>(
     // That the desk's journals are sound comes with what it serves.
     let _sites = desk.served();
     match Session::new(alloc) {
-        Err(_) => SessionEnd {
-            pass: (),
-            moments: Vec::new(alloc),
-            places: Vec::new(alloc),
-            cuts: Vec::new(alloc),
-            end: End::Mem,
-        },
+        Err(_) => unbegun(alloc, ()),
         Ok(mut session) => {
             let mut scratch = Scratch::new(alloc);
-            let end = session.run(alloc, &mut scratch, desk, mode.fixed, source, sink, clock);
-            ended(session, end)
+            let end = session.run(
+                alloc,
+                &mut scratch,
+                desk,
+                mode.fixed,
+                source,
+                sink,
+                clock,
+                &Unwatched,
+            );
+            ended(session, end, ())
         }
-    }
-}
-
-// What the session says at its end.
-fn ended(session: Session, end: End) -> SessionEnd<()>
-    ensures account { (record {
-      moments = result.moments.items;
-      places = map (λ v. v.items) result.places.items;
-      cuts = result.cuts.items;
-    }) ≡ account_in session }
-    ensures cuts { result.cuts.items ≡ session.cuts.items }
-    ensures end { result.end ≡ end }
-{
-    let Session {
-        reader: _reader,
-        moments,
-        places,
-        cuts,
-    } = session;
-    SessionEnd {
-        pass: (),
-        moments,
-        places,
-        cuts,
-        end,
     }
 }

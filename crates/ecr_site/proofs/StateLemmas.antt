@@ -84,13 +84,16 @@ after_register-beyond s ticket caller name full =
 
 -- what the line of a new name makes of the directory
 directory_after_line-registration_line : (frame : SiteFrame) (d : Directory) (ticket caller : ℕ) (name : Name)
-    → registration frame d name ≡ New → directory_after_line frame d (registration_line ticket caller name) ≡ Some (with_name name d)
+    → registration frame d name ≡ New
+    → directory_after_line frame d (registration_line ticket caller name) ≡ Some (with_name name d)
 unfolding directory_after_line
 directory_after_line-registration_line frame d ticket caller name new = ap (after_registration name d) new
 
 -- a new name is entered at a later ticket
-pub AreNamesOf-registration_line : (frame : SiteFrame) (journal : List Line) (names : List Name) (ticket caller : ℕ) (name : Name)
-    → AreNamesOf frame journal names → past journal ≤ ticket → registration frame (replayed_directory frame journal) name ≡ New
+pub AreNamesOf-registration_line : (frame : SiteFrame) (journal : List Line) (names : List Name) (ticket caller : ℕ)
+    (name : Name)
+    → AreNamesOf frame journal names → past journal ≤ ticket
+    → registration frame (replayed_directory frame journal) name ≡ New
     → AreNamesOf frame (journal ++ registration_line ticket caller name ∷ []) (insert_key name_order names name)
 AreNamesOf-registration_line frame journal names ticket caller name kept later new =
     let d : Directory = replayed_directory frame journal in
@@ -115,4 +118,5 @@ past_from-push low (l ∷ ls) line = past_from-push (suc l.ticket) ls line
 -- so the next ticket is above all
 pub past-with_line : (s : SiteJournal) (ticket caller : ℕ) (name : Name)
     → past (with_line s (registration_line ticket caller name)).journal ≤ ticket + 1
-past-with_line s ticket caller name = rw (past_from-push 0 s.journal (registration_line ticket caller name)) (omega arith)
+past-with_line s ticket caller name = rw (past_from-push 0 s.journal (registration_line ticket caller name))
+    (omega arith)

@@ -26,6 +26,7 @@ or_second false b h = h
 
 -- ---- how far they agree
 
+-- a pattern and a tag agree in no more bytes than either has
 pub agreed-le : (p t : List ℕ) → (agreed p t ≤ length p) × (agreed p t ≤ length t)
 agreed-le [] t = (omega arith, omega arith)
 agreed-le (p ∷ ps) [] = (omega arith, omega arith)
@@ -146,12 +147,14 @@ whole_parts : (p t : List ℕ) (n : ℕ) → is_whole p t n ≡ true → (n ≡ 
 whole_parts p t n h = let q =
     and_parts (n == length p) (n == length t) h in (eqb-true n (length p) q.0, eqb-true n (length t) q.1)
 
+-- behind the bytes that agree a `*` and the rest of the pattern have to match the rest of the tag
 pub star-first : (p t : List ℕ) (n : ℕ) → n ≡ agreed p t → is_star p n ≡ true
     → wild p t ≡ wild (42 ∷ drop (n + 1) p) (drop n t)
 star-first p t n e h = let q =
     star_parts p n h in rw e
     (wild-star p t (subst (λ m. m < length p) e q.0) (subst (λ m. slice_index p m ≡ 42) e q.1))
 
+-- a `*` before the pattern gives way to the next one, behind the bytes that agree
 pub star-next : (p t : List ℕ) (n : ℕ) → n ≡ agreed p t → is_star p n ≡ true
     → wild (42 ∷ p) t ≡ wild (42 ∷ drop (n + 1) p) (drop n t)
 star-next p t n e h = let q =
@@ -167,20 +170,24 @@ fails-here p t n e h k = wild-fails p t
     (λ l s. both_ways (is_star p n) h (rw e (and_from _ _ (lt-ltb (agreed p t) (length p) l) (eq-eqb _ _ s))))
     (λ l s. both_ways (is_whole p t n) k (rw e (and_from _ _ (eq-eqb _ _ l) (eq-eqb _ _ s))))
 
+-- where no `*` stands behind the bytes that agree, a match is one of the whole pattern
 pub whole-only : (p t : List ℕ) (n : ℕ) → n ≡ agreed p t → is_star p n ≡ false → wild p t ≡ is_whole p t n
 whole-only p t n e h = elim (split (is_whole p t n)) [
   | inl k ↦ whole-here p t n e k ∙ sym k
   | inr k ↦ fails-here p t n e h k ∙ sym k
 ]
 
+-- behind a `*` a whole match at this place is a match
 pub place-here : (p t : List ℕ) (n : ℕ) → n ≡ agreed p t → is_whole p t n ≡ true → wild (42 ∷ p) t ≡ true
 place-here p t n e h = star-here p t (whole-here p t n e h)
 
+-- behind a `*` nothing matches at the tag's end but a whole match
 pub place-last : (p t : List ℕ) (n : ℕ) → n ≡ agreed p t → is_star p n ≡ false → is_whole p t n ≡ false → length t ≡ 0
     → wild (42 ∷ p) t ≡ false
 place-last p [] n e h k l = fails-here p [] n e h k
 place-last p (t ∷ ts) n e h k l = absurd (omega (arith, l))
 
+-- behind a `*` the next place is tried where this one doesn't match
 pub place-next : (p t : List ℕ) (n : ℕ) → n ≡ agreed p t → is_star p n ≡ false → is_whole p t n ≡ false → 0 < length t
     → wild (42 ∷ p) t ≡ wild (42 ∷ p) (drop 1 t)
 place-next p [] n e h k l = absurd (omega (arith, l))

@@ -232,7 +232,8 @@ module _ {B : Type 0} (lines : B → List Line) (frame : B → Frame) (fixed : F
 
   -- a number may be drawn for a caller to come
   pub may_name : (slots id : ℕ) (me : M) (old : ℕ) → me.0.stage ≡ Idle
-      → Allows Rule slots id me 3 (λ x. either (eqb x old) (old + 1) x) (drew_number (step slots 3 old (old + 1) none) me)
+      → Allows Rule slots id me 3 (λ x. either (eqb x old) (old + 1) x)
+      (drew_number (step slots 3 old (old + 1) none) me)
   may_name slots id me old idle s r _ at small =
       let x : ℕ = get_or s.words 3 0 in let is : x ≡ r.callers = ap (λ (ws : List ℕ). get_or ws 3 0) r.words_are in
       exchanged x old (old + 1)

@@ -141,7 +141,8 @@ module _ {B : Type 0} (lines : B → List Line) (frame : B → Frame) (fixed : F
   }
 
 -- the table of a turnstile at its numbers, with its passes and its journal
-pub IsTurnstile-kept : {B : Type 0} (lines : B → List Line) (frame : B → Frame) (fixed : Frame) (s : State (Option B) View)
+pub IsTurnstile-kept : {B : Type 0} (lines : B → List Line) (frame : B → Frame) (fixed : Frame)
+    (s : State (Option B) View)
     → Kept lines frame fixed s → IsTurnstile lines frame fixed s
 IsTurnstile-kept lines frame fixed s r = record {
   numbers = record { entries = r.count; tickets = r.tickets; serving = r.serving; callers = r.callers };

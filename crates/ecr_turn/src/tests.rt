@@ -152,6 +152,15 @@ fn two_threads_enter_each_turn_once(rt: HostRuntime) -> Result<(), Fail> {
     Ok(())
 }
 
+#[test]
+fn a_turnstile_has_a_hundred_thousand_turns(rt: HostRuntime) -> Result<(), Fail> {
+    let (turnstile, first) = made(rt.alloc(), 100_000)?;
+    let callers = (first.caller(), u64::MAX);
+    let pass = some_turns(&rt, &turnstile, first, 100_000);
+    assert!(rt; counts(&rt, &turnstile, pass, callers) == (100_000, 100_000, 0));
+    Ok(())
+}
+
 // A pass and another that is split off.
 fn pair<R: Wait>(
     rt: &R,

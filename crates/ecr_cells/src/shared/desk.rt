@@ -5,10 +5,12 @@ ghost use Rattle.ecr_blob_upload.specs.Loads.{FitsCall, given};
 ghost use Rattle.ecr_model.specs.registry.Contents.{AreContents};
 ghost use Rattle.ecr_model.specs.requests.Requests as scripts;
 ghost use Rattle.ecr_model.specs.requests.Requests.{plain};
-ghost use Rattle.ecr_desk.specs.Desks.{IsOf, Ran, StoppedWithin, seen_with};
+ghost use Rattle.ecr_desk.specs.Desks.{IsOf, Ran, StoppedWithin};
 ghost use Rattle.ecr_cells.specs.Deeds.{told_of, refusal_of};
 ghost use Rattle.ecr_cells.specs.Desks.{places_made};
-ghost use Rattle.ecr_cells.specs.Shared.{AreGates, IsFresh, LeadsInto, Opens, frame_of_directory, gate_at, pass_of, shared_of, views_in};
+ghost use Rattle.ecr_cells.specs.Doors.{frame_of_directory};
+ghost use Rattle.ecr_cells.specs.Holds.{Held, hold_script, idle_turn};
+ghost use Rattle.ecr_cells.specs.Shared.{AreGates, HasSeenNothing, LeadsInto, Opens, gate_at, pass_of, seen_through, shared_of, views_in};
 ghost use Rattle.ecr_cells.specs.Splits.{IsSplitOff};
 
 use crate::cells::copy_of;
@@ -18,10 +20,12 @@ use crate::repository::{copy_of as copy_of_key, copy_of_name};
 use crate::shared::directory::SharedDirectory;
 use crate::shared::door::Door;
 use crate::shared::pass::{DeskPass, Passes};
+use crate::shared::pause::{AtGate, NoPause};
 use crate::shared::site::SitePass;
 use ecr_blob_upload::{Load, Outcome};
 use ecr_desk::{Answer, Desk, SiteAnswer};
 use ecr_model::{Call, CellKey, Limits, Listed, Mem, Moment, Place, RepoKey, SiteCall, SiteId};
+use ecr_outside::Gate;
 use ecr_turn::Turnstile;
 use std::alloc::Global;
 use std::collections::BTreeMap;
@@ -60,7 +64,7 @@ impl SharedDesk {
     ) -> Result<(SharedDesk, DeskPass), Mem>
         ensures realm { IfOk result (λ r. (shared_of r.0).realm ≡ record { served = sites.items; limits = limits }) }
         ensures of { IfOk result (λ r. IsOf (shared_of r.0) (pass_of r.1)) }
-        ensures fresh { IfOk result (λ r. IsFresh (pass_of r.1)) }
+        ensures fresh { IfOk result (λ r. HasSeenNothing (pass_of r.1)) }
     {
         let served = Listed::from_vec(sites);
         let mut gates = BTreeMap::new(alloc);
@@ -99,6 +103,67 @@ impl SharedDesk {
         Ok(DeskPass::new(splits))
     }
 
+    /// Takes the turn of a repository, passes the gate in it at [`InTurn`](ecr_outside::Stage::InTurn), and leaves it without
+    /// an entry. It tells the turn's place. A name that isn't registered has no such turn, and the place is that of the
+    /// directory's turn before it.
+    ///
+    /// So a test may keep others waiting for the repository.
+    pub fn hold<W: Wait, G: Gate>(
+        &self,
+        rt: &W,
+        alloc: Global,
+        pass: &mut DeskPass,
+        key: &RepoKey,
+        worker: u32,
+        gate: &G,
+    ) -> Result<Place, Mem>
+        requires served { Contains self.now.served key.now.site }
+        requires of { IsOf (shared_of self.now) (pass_of pass.old) }
+        ensures held { IfOk result
+            (λ place. Held (seen_through self.now pass.old) (seen_through self.now pass.new) key.now place) }
+        ensures of { IsOf (shared_of self.now) (pass_of pass.new) }
+        ensures no_entry { pass.new.made ≡ pass.old.made }
+        ensures err { OnErr result
+            (StoppedWithin 1 (seen_through self.now pass.old) (seen_through self.now pass.new) (hold_script key.now)) }
+    {
+        let (told, first, door) = self.first_turn(rt, alloc, pass, key, &Call::Describe)?;
+        match refusal_of(&told) {
+            None => self.hold_cell(rt, alloc, pass, key, worker, gate, door?),
+            Some(_) => Ok(first),
+        }
+    }
+
+    // The turn in the repository that is held.
+    fn hold_cell<W: Wait, G: Gate>(
+        &self,
+        rt: &W,
+        alloc: Global,
+        pass: &mut DeskPass,
+        key: &RepoKey,
+        worker: u32,
+        gate: &G,
+        door: Option<Door>,
+    ) -> Result<Place, Mem>
+        requires served { Contains self.now.served key.now.site }
+        requires of { IsOf (shared_of self.now) (pass_of pass.old) }
+        requires way { LeadsInto pass.old.sites key.now door }
+        ensures ran { IfOk result
+            (λ place. Ran (seen_through self.now pass.old) (seen_through self.now pass.new) (idle_turn key.now) tt
+            (place ∷ [])) }
+        ensures of { IsOf (shared_of self.now) (pass_of pass.new) }
+        ensures no_entry { pass.new.made ≡ pass.old.made }
+        ensures err { OnErr result
+            (StoppedWithin 0 (seen_through self.now pass.old) (seen_through self.now pass.new) (idle_turn key.now)) }
+    {
+        self.gates_are();
+        let copy = copy_of_key(key)?;
+        let name = copy_of_name(&key.name)?;
+        let deed = Deed::Knows(name);
+        let pause = AtGate { gate, worker };
+        let (_, place) = pass.in_repository(rt, alloc, copy, deed, door, &pause)?;
+        Ok(place)
+    }
+
     // The turnstile of a site's directory.
     fn turnstile_of(&self, site: &SiteId) -> &Turnstile<SharedDirectory>
         requires there { IsSome (gate_at self.now.sites site.now) }
@@ -120,10 +185,8 @@ impl SharedDesk {
           limits = self.now.limits;
         }) }
     {
-        match self.sites.get(site) {
-            Some(turnstile) => turnstile,
-            None => unreachable!(),
-        }
+        self.gates_are();
+        self.turnstile_of(site)
     }
 
     // Each turnstile is that of its site's directory.
@@ -145,13 +208,13 @@ impl SharedDesk {
         requires served { Contains self.now.served key.now.site }
         requires of { IsOf (shared_of self.now) (pass_of pass.old) }
         ensures ran { IfOk result
-            (λ t. Ran (seen_with (shared_of self.now) (pass_of pass.old)) (seen_with (shared_of self.now) (pass_of pass.new))
+            (λ t. Ran (seen_through self.now pass.old) (seen_through self.now pass.new)
             (scripts.first_turn key.now call.now) (told_of t.0) (t.1 ∷ [])) }
         ensures of { IsOf (shared_of self.now) (pass_of pass.new) }
         ensures given { IfOk result
             (λ t. IfOk t.2 (λ door. refusal_of t.0 ≡ None → LeadsInto pass.new.sites key.now door)) }
-        ensures err { OnErr result (StoppedWithin 0 (seen_with (shared_of self.now) (pass_of pass.old))
-            (seen_with (shared_of self.now) (pass_of pass.new)) (scripts.first_turn key.now call.now)) }
+        ensures err { OnErr result (StoppedWithin 0 (seen_through self.now pass.old)
+            (seen_through self.now pass.new) (scripts.first_turn key.now call.now)) }
     {
         let site = copy_of(&key.site)?;
         let deed = first_deed(copy_of_name(&key.name)?, call);
@@ -178,12 +241,12 @@ impl SharedDesk {
         requires of { IsOf (shared_of self.now) (pass_of pass.old) }
         requires given { IfOk door (λ d. refusal_of told ≡ None → LeadsInto pass.old.sites key.now d) }
         ensures ran { IfOk result
-            (λ t. Ran (seen_with (shared_of self.now) (pass_of pass.old)) (seen_with (shared_of self.now) (pass_of pass.new))
+            (λ t. Ran (seen_through self.now pass.old) (seen_through self.now pass.new)
             (scripts.then_cell key.now call (given load) moment (told_of told)) (plain t.0.reply) (places_made t.1)) }
         ensures of { IsOf (shared_of self.now) (pass_of pass.new) }
         ensures contents { IfOk result (λ t. AreContents t.0.reply t.0.blobs.items) }
-        ensures err { OnErr result (StoppedWithin 0 (seen_with (shared_of self.now) (pass_of pass.old))
-            (seen_with (shared_of self.now) (pass_of pass.new))
+        ensures err { OnErr result (StoppedWithin 0 (seen_through self.now pass.old)
+            (seen_through self.now pass.new)
             (scripts.then_cell key.now call (given load) moment (told_of told))) }
     {
         match refusal_of(&told) {
@@ -209,17 +272,17 @@ impl SharedDesk {
         requires of { IsOf (shared_of self.now) (pass_of pass.old) }
         requires way { LeadsInto pass.old.sites key.now door }
         ensures ran { IfOk result
-            (λ t. Ran (seen_with (shared_of self.now) (pass_of pass.old)) (seen_with (shared_of self.now) (pass_of pass.new))
+            (λ t. Ran (seen_through self.now pass.old) (seen_through self.now pass.new)
             (scripts.cell_turn key.now call (given load) moment) (plain t.0.reply) (places_made t.1)) }
         ensures of { IsOf (shared_of self.now) (pass_of pass.new) }
         ensures contents { IfOk result (λ t. AreContents t.0.reply t.0.blobs.items) }
-        ensures err { OnErr result (StoppedWithin 0 (seen_with (shared_of self.now) (pass_of pass.old))
-            (seen_with (shared_of self.now) (pass_of pass.new)) (scripts.cell_turn key.now call (given load) moment)) }
+        ensures err { OnErr result (StoppedWithin 0 (seen_through self.now pass.old)
+            (seen_through self.now pass.new) (scripts.cell_turn key.now call (given load) moment)) }
     {
         self.gates_are();
         let copy = copy_of_key(key)?;
         let deed = Deed::OnRepository { call, load, moment };
-        let (done, place) = pass.in_repository(rt, alloc, copy, deed, door)?;
+        let (done, place) = pass.in_repository(rt, alloc, copy, deed, door, &NoPause)?;
         let outcome = outcome_of(alloc, done);
         Ok((outcome, Some(place)))
     }

@@ -3,7 +3,7 @@ ghost use Rattle.std.specs.Prelude.{◌≡◌, ◌≤◌, [], None, IfOk, OnOk, 
 ghost use Rattle.ecr_model.specs.registry.Journals.{past};
 ghost use Rattle.ecr_site.specs.States.{frame_of_journal};
 ghost use Rattle.ecr_cells.specs.Deeds.{ask_of, HasContents};
-ghost use Rattle.ecr_cells.specs.Shared.{frame_of_name, IsOpened, IsGiven, IsWanted, Hangs};
+ghost use Rattle.ecr_cells.specs.Doors.{frame_of_name, IsOpened, IsGiven, IsWanted, Hangs};
 ghost use Rattle.ecr_cells.specs.Turns.{IsDirectoryTurn};
 
 use crate::deed::{Deed, Done, refusal_of};
@@ -30,7 +30,7 @@ pub(crate) struct SharedDirectory {
 
 impl Model for SharedDirectory {
     ghost use Rattle.ecr_site.specs.States.{frame_of_journal};
-    ghost use Rattle.ecr_cells.specs.Shared.{DirectoryAt, AreDoors};
+    ghost use Rattle.ecr_cells.specs.Doors.{DirectoryAt, AreDoors};
 
     ghost Value = { DirectoryAt };
 
@@ -41,7 +41,7 @@ impl Model for SharedDirectory {
 
 impl Journal for SharedDirectory {
     ghost use Rattle.ecr_site.specs.States.{frame_of_journal};
-    ghost use Rattle.ecr_cells.specs.Shared.{frame_of_directory};
+    ghost use Rattle.ecr_cells.specs.Doors.{frame_of_directory};
 
     ghost lines = { λ d. d.directory.journal };
 

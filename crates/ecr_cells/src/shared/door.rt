@@ -4,9 +4,10 @@ ghost use Rattle.ecr_model.specs.declared.registry.journal.CellKey.TheVariants.{
 ghost use Rattle.ecr_model.specs.registry.Views.{ExtendsView};
 ghost use Rattle.ecr_turn.specs.Passes.{IsAsWise};
 ghost use Rattle.ecr_cells.specs.Deeds.{ask_of, told_of, FitsDeed, HasContents};
-ghost use Rattle.ecr_cells.specs.Shared.{frame_of_repository, realm_of, view_of, IsOpened, Visited};
+ghost use Rattle.ecr_cells.specs.Doors.{frame_of_repository, realm_of_frame, view_of, IsOpened, Visited};
 
 use crate::deed::{Deed, Done};
+use crate::shared::pause::Pause;
 use crate::shared::repository::SharedRepository;
 use crate::site_cells::placed;
 use ecr_model::{CellKey, Mem, Place, RepoKey};
@@ -71,18 +72,20 @@ impl Door {
         }
     }
 
-    /// Makes a turn in the repository of that key. Without memory the turn is left without an entry.
-    pub(crate) fn make<W: Wait>(
+    /// Makes a turn in the repository of that key, after the pause in it. Without memory the turn is left without an entry.
+    pub(crate) fn make<W: Wait, P: Pause>(
         &mut self,
         rt: &W,
         alloc: Global,
         key: RepoKey,
         deed: Deed,
+        pause: &P,
     ) -> Result<(Done, Place), Mem>
         requires at { self.old.gate.frame.cell ≡ Repository key }
         requires fits { FitsDeed deed }
         ensures visited { IfOk result
-            (λ t. Visited (realm_of self.old.gate.frame) (Some (view_of self.old)) (view_of self.new) (Repository key)
+            (λ t. Visited (realm_of_frame self.old.gate.frame) (Some (view_of self.old)) (view_of self.new)
+            (Repository key)
             (ask_of deed) (told_of t.0) t.1) }
         ensures gate { self.new.gate ≡ self.old.gate }
         ensures contents { IfOk result (λ t. HasContents t.0) }
@@ -94,6 +97,7 @@ impl Door {
         let caller = pass.caller();
         let mut turn = self.turnstile.enter(rt, pass);
         let ticket = turn.ticket();
+        pause.pause(rt);
         let made = turn.change().make(alloc, ticket, caller, deed);
         self.pass = Some(turn.leave());
         let done = made?;

@@ -1,7 +1,7 @@
 // The doors of another caller.
 ghost use Rattle.std.specs.Prelude.{◌≡◌, IfOk, OnOk, IsSome, All};
 ghost use Rattle.std.specs.Map.{keys_of};
-ghost use Rattle.ecr_cells.specs.Shared.{door_at};
+ghost use Rattle.ecr_cells.specs.Doors.{door_at};
 ghost use Rattle.ecr_cells.specs.Splits.{AreSplit, DoorsStay, SplitsDoor};
 
 use crate::repository::copy_of_name;

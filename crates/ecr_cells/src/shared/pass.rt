@@ -6,7 +6,8 @@ ghost use Rattle.ecr_model.specs.registry.Scripts.{turn, ends};
 ghost use Rattle.ecr_turn.specs.Passes.{Gate};
 ghost use Rattle.ecr_desk.specs.Desks.{Ran};
 ghost use Rattle.ecr_cells.specs.Deeds.{ask_of, told_of, refusal_of, FitsDeed, HasContents};
-ghost use Rattle.ecr_cells.specs.Shared.{Looks, LeadsInto, caller_state, gates_in, pass_of, passes_at, realm_of, site_frame_of};
+ghost use Rattle.ecr_cells.specs.Doors.{realm_of_frame, site_frame_of};
+ghost use Rattle.ecr_cells.specs.Shared.{Looks, LeadsInto, caller_state, gates_in, pass_of, passes_at};
 ghost use Rattle.ecr_cells.specs.Splits.{SplitsSite};
 
 use crate::cells::copy_of;
@@ -14,6 +15,7 @@ use crate::deed::{Deed, Done};
 use crate::desk::counted;
 use crate::shared::directory::SharedDirectory;
 use crate::shared::door::Door;
+use crate::shared::pause::Pause;
 use crate::shared::site::SitePass;
 use ecr_desk::Seen;
 use ecr_model::{Mem, Place, RepoKey, SiteId};
@@ -115,13 +117,15 @@ impl DeskPass {
         requires at { turnstile.now.frame.cell ≡ Directory site }
         requires key { IfSome key (λ k. k.now.site ≡ site) }
         ensures ran { IfOk result
-            (λ t. Ran (caller_state (realm_of turnstile.now.frame) self.old) (caller_state (realm_of turnstile.now.frame) self.new)
+            (λ t. Ran (caller_state (realm_of_frame turnstile.now.frame) self.old)
+            (caller_state (realm_of_frame turnstile.now.frame) self.new)
             (turn (Directory site) (ask_of deed) (λ told. ends told)) (told_of t.0) (t.1 ∷ [])) }
         ensures gates { gates_in self.new.sites ≡ gates_in self.old.sites }
         ensures contents { IfOk result (λ t. HasContents t.0) }
         ensures given { IfOk result
-            (λ t. IfOk t.2 (λ door. IfSome key.entry (λ k. refusal_of t.0 ≡ None → LeadsInto self.new.sites k.now door))) }
-        ensures err { OnErr result (Looks (realm_of turnstile.now.frame) self.old self.new (Directory site)) }
+            (λ t. IfOk t.2 (λ door. IfSome key.entry
+            (λ k. refusal_of t.0 ≡ None → LeadsInto self.new.sites k.now door))) }
+        ensures err { OnErr result (Looks (realm_of_frame turnstile.now.frame) self.old self.new (Directory site)) }
     {
         // The count of entries fits.
         if self.made == u64::MAX {
@@ -141,24 +145,27 @@ impl DeskPass {
 
     /// Makes a turn in a repository, through that door or the one that the caller has, and counts its entry. Without memory
     /// it is left without an entry.
-    pub(crate) fn in_repository<W: Wait>(
+    pub(crate) fn in_repository<W: Wait, P: Pause>(
         &mut self,
         rt: &W,
         alloc: Global,
         key: RepoKey,
         deed: Deed,
         door: Option<Door>,
+        pause: &P,
     ) -> Result<(Done, Place), Mem>
-        requires at { (gate : Gate) → gates_in self.old.sites key.site ≡ Some gate → gate.frame.cell ≡ Directory key.site }
+        requires at { (gate : Gate) → gates_in self.old.sites key.site ≡ Some gate
+            → gate.frame.cell ≡ Directory key.site }
         requires fits { FitsDeed deed }
         requires way { LeadsInto self.old.sites key door }
         ensures ran { (gate : Gate) → gates_in self.old.sites key.site ≡ Some gate → IfOk result
-            (λ t. Ran (caller_state (realm_of gate.frame) self.old) (caller_state (realm_of gate.frame) self.new)
+            (λ t. Ran (caller_state (realm_of_frame gate.frame) self.old)
+            (caller_state (realm_of_frame gate.frame) self.new)
             (turn (Repository key) (ask_of deed) (λ told. ends told)) (told_of t.0) (t.1 ∷ [])) }
         ensures gates { gates_in self.new.sites ≡ gates_in self.old.sites }
         ensures contents { IfOk result (λ t. HasContents t.0) }
         ensures err { (gate : Gate) → gates_in self.old.sites key.site ≡ Some gate
-            → OnErr result (Looks (realm_of gate.frame) self.old self.new (Repository key)) }
+            → OnErr result (Looks (realm_of_frame gate.frame) self.old self.new (Repository key)) }
     {
         // The count of entries fits.
         if self.made == u64::MAX {
@@ -166,7 +173,7 @@ impl DeskPass {
         }
         match self.sites.get_mut(&key.site) {
             Some(passes) => {
-                let (done, place) = passes.in_repository(rt, alloc, key, deed, door)?;
+                let (done, place) = passes.in_repository(rt, alloc, key, deed, door, pause)?;
                 self.made = counted(self.made, place.changed);
                 Ok((done, place))
             }

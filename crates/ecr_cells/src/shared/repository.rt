@@ -21,7 +21,7 @@ pub(crate) struct SharedRepository {
 }
 
 impl Model for SharedRepository {
-    ghost use Rattle.ecr_cells.specs.Shared.{RepositoryAt};
+    ghost use Rattle.ecr_cells.specs.Doors.{RepositoryAt};
 
     ghost Value = { RepositoryAt };
 
@@ -29,7 +29,7 @@ impl Model for SharedRepository {
 }
 
 impl Journal for SharedRepository {
-    ghost use Rattle.ecr_cells.specs.Shared.{frame_of_repository};
+    ghost use Rattle.ecr_cells.specs.Doors.{frame_of_repository};
 
     ghost lines = { λ r. r.state.journal };
 

@@ -5,13 +5,15 @@ ghost use Rattle.ecr_model.specs.registry.Views.{ExtendsView};
 ghost use Rattle.ecr_cells.specs.Deeds.{ask_of, told_of, refusal_of, FitsDeed, HasContents};
 ghost use Rattle.ecr_cells.specs.SiteCells.{site_of_cell};
 ghost use Rattle.ecr_cells.specs.Splits.{IsSplitSite, SiteStays};
-ghost use Rattle.ecr_cells.specs.Shared.{IsOpened, IsWay, Visited, Enters, Peers, door_at, lacking, frame_of_name, site_frame_of, realm_of, view_of};
+ghost use Rattle.ecr_cells.specs.Doors.{IsOpened, Visited, door_at, frame_of_name, site_frame_of, realm_of_frame, view_of};
+ghost use Rattle.ecr_cells.specs.Shared.{IsWay, Enters, Peers, lacking};
 
 use crate::deed::{Deed, Done};
 use crate::repository::copy_of_name;
 use crate::shared::directory::{SharedDirectory, hang};
 use crate::shared::door::Door;
 use crate::shared::doors::split_doors;
+use crate::shared::pause::Pause;
 use crate::site_cells::placed;
 use ecr_model::{CellKey, Mem, Name, Place, RepoKey, SiteId};
 use ecr_turn::{Pass, Turnstile};
@@ -31,13 +33,15 @@ pub(crate) struct SitePass {
 impl Model for SitePass {
     ghost use Rattle.std.specs.Prelude.{IsSome};
     ghost use Rattle.ecr_turn.specs.Passes.{known_in};
-    ghost use Rattle.ecr_cells.specs.Shared.{SiteKnown, AreOfSite, site_frame_of};
+    ghost use Rattle.ecr_cells.specs.Doors.{site_frame_of};
+    ghost use Rattle.ecr_cells.specs.Shared.{SiteKnown, AreDoorsOfSite};
 
     ghost Value = { SiteKnown };
 
     ghost view = { λ s. record { directory = known_in s.pass; doors = s.doors.entries } };
 
-    ghost invariant = { λ s. IsSome s.pass × AreOfSite (site_frame_of (known_in s.pass).gate.frame) s.doors.entries };
+    ghost invariant = { λ s. IsSome s.pass
+        × AreDoorsOfSite (site_frame_of (known_in s.pass).gate.frame) s.doors.entries };
 }
 
 impl SitePass {
@@ -112,8 +116,8 @@ impl SitePass {
         requires at { turnstile.now.frame.cell ≡ Directory site }
         requires key { IfSome key (λ k. k.now.site ≡ site) }
         ensures visited { IfOk result
-            (λ t. Visited (realm_of turnstile.now.frame) (Some (view_of self.old.directory)) (view_of self.new.directory)
-            (Directory site) (ask_of deed) (told_of t.0) t.1) }
+            (λ t. Visited (realm_of_frame turnstile.now.frame) (Some (view_of self.old.directory))
+            (view_of self.new.directory) (Directory site) (ask_of deed) (told_of t.0) t.1) }
         ensures gate { self.new.directory.gate ≡ self.old.directory.gate }
         ensures doors { self.new.doors ≡ self.old.doors }
         ensures contents { IfOk result (λ t. HasContents t.0) }
@@ -138,69 +142,72 @@ impl SitePass {
 
     /// Makes a turn in a repository, through that door or the one that the caller has. Without memory it is left without an
     /// entry.
-    pub(crate) fn in_repository<W: Wait>(
+    pub(crate) fn in_repository<W: Wait, P: Pause>(
         &mut self,
         rt: &W,
         alloc: Global,
         key: RepoKey,
         deed: Deed,
         door: Option<Door>,
+        pause: &P,
     ) -> Result<(Done, Place), Mem>
         requires at { site_of_cell self.old.directory.gate.frame.cell ≡ key.site }
         requires fits { FitsDeed deed }
         requires way { IsWay (site_frame_of self.old.directory.gate.frame) self.old.doors key.name door }
         ensures entered { IfOk result
-            (λ t. Enters (realm_of self.old.directory.gate.frame) self.old.doors self.new.doors key (ask_of deed)
+            (λ t. Enters (realm_of_frame self.old.directory.gate.frame) self.old.doors self.new.doors key (ask_of deed)
             (told_of t.0) t.1) }
         ensures directory { self.new.directory ≡ self.old.directory }
         ensures contents { IfOk result (λ t. HasContents t.0) }
         ensures err { OnErr result ((self.new.doors ≡ self.old.doors) ⊎ Peers self.old.doors self.new.doors key) }
     {
         match door {
-            Some(door) => self.through(rt, alloc, key, deed, door),
-            None => self.again(rt, alloc, key, deed),
+            Some(door) => self.through(rt, alloc, key, deed, door, pause),
+            None => self.again(rt, alloc, key, deed, pause),
         }
     }
 
     // Makes a turn in a repository to which the caller has a door.
-    fn again<W: Wait>(
+    fn again<W: Wait, P: Pause>(
         &mut self,
         rt: &W,
         alloc: Global,
         key: RepoKey,
         deed: Deed,
+        pause: &P,
     ) -> Result<(Done, Place), Mem>
         requires at { site_of_cell self.old.directory.gate.frame.cell ≡ key.site }
         requires fits { FitsDeed deed }
         requires there { IsSome (door_at self.old.doors key.name) }
         ensures entered { IfOk result
-            (λ t. Enters (realm_of self.old.directory.gate.frame) self.old.doors self.new.doors key (ask_of deed)
+            (λ t. Enters (realm_of_frame self.old.directory.gate.frame) self.old.doors self.new.doors key (ask_of deed)
             (told_of t.0) t.1) }
         ensures directory { self.new.directory ≡ self.old.directory }
         ensures contents { IfOk result (λ t. HasContents t.0) }
         ensures err { OnErr result (Peers self.old.doors self.new.doors key) }
     {
         match self.doors.get_mut(&key.name) {
-            Some(door) => door.make(rt, alloc, key, deed),
+            Some(door) => door.make(rt, alloc, key, deed, pause),
             None => unreachable!(),
         }
     }
 
     // Makes the caller's first turn in a repository, through that door, which it keeps.
-    fn through<W: Wait>(
+    fn through<W: Wait, P: Pause>(
         &mut self,
         rt: &W,
         alloc: Global,
         key: RepoKey,
         deed: Deed,
         door: Door,
+        pause: &P,
     ) -> Result<(Done, Place), Mem>
         requires at { site_of_cell self.old.directory.gate.frame.cell ≡ key.site }
         requires fits { FitsDeed deed }
         requires first { door_at self.old.doors key.name ≡ None }
         requires opened { IsOpened (frame_of_name (site_frame_of self.old.directory.gate.frame) key.name) door }
         ensures entered { IfOk result
-            (λ t. Enters (realm_of self.old.directory.gate.frame) self.old.doors self.new.doors key (ask_of deed)
+            (λ t. Enters (realm_of_frame self.old.directory.gate.frame) self.old.doors self.new.doors key (ask_of deed)
             (told_of t.0) t.1) }
         ensures directory { self.new.directory ≡ self.old.directory }
         ensures contents { IfOk result (λ t. HasContents t.0) }
@@ -208,6 +215,6 @@ impl SitePass {
     {
         let name = copy_of_name(&key.name)?;
         hang(&mut self.doors, name, door)?;
-        self.again(rt, alloc, key, deed)
+        self.again(rt, alloc, key, deed, pause)
     }
 }

@@ -3,10 +3,10 @@ ghost use Rattle.ecr_desk.specs.Desks.{IsOf};
 ghost use Rattle.ecr_cells.specs.Shared.{pass_of, shared_of};
 
 use crate::cells::copy_of;
-use crate::tests::{FIRST, create, read, replied, sites};
+use crate::tests::{FIRST, answered as on_solo, create, read, replied, sites, two_sites};
 use crate::{DeskPass, SharedDesk};
 use ecr_blob_upload::Load;
-use ecr_desk::{Answer, Desk};
+use ecr_desk::{Answer, AnyDesk, Desk};
 use ecr_model::{
     Call, CellKey, Limits, Mem, Moment, Mutability, Name, Place, RepoKey, SharedText, SiteId,
 };
@@ -15,7 +15,7 @@ use std::sync::Wait;
 use std::test::Fail;
 
 // A desk with two sites and this limit of names, and the first pass to it.
-fn opened(alloc: Global, names: u64) -> Result<(SharedDesk, DeskPass), Mem>
+pub(crate) fn opened(alloc: Global, names: u64) -> Result<(SharedDesk, DeskPass), Mem>
     ensures { IfOk result (λ r. IsOf (shared_of r.0) (pass_of r.1)) }
 {
     let mut limits = Limits::standard();
@@ -24,7 +24,7 @@ fn opened(alloc: Global, names: u64) -> Result<(SharedDesk, DeskPass), Mem>
 }
 
 // A copy of the desk's site at that place.
-fn site_at(desk: &SharedDesk, at: usize) -> Result<Option<SiteId>, Mem>
+pub(crate) fn site_at(desk: &SharedDesk, at: usize) -> Result<Option<SiteId>, Mem>
     ensures { IfOk result (λ o. IfSome o (λ site. Contains (shared_of desk.now).realm.served site)) }
 {
     let served = desk.served();
@@ -34,8 +34,26 @@ fn site_at(desk: &SharedDesk, at: usize) -> Result<Option<SiteId>, Mem>
     Ok(None)
 }
 
+// The repository of that name at the site of that place.
+pub(crate) fn key_at(
+    desk: &SharedDesk,
+    alloc: Global,
+    at: usize,
+    name: &str,
+) -> Result<Option<RepoKey>, Mem>
+    ensures { IfOk result (λ o. IfSome o (λ key. Contains (shared_of desk.now).realm.served key.site)) }
+{
+    let Some(site) = site_at(desk, at)? else {
+        return Ok(None);
+    };
+    let name = Name {
+        text: SharedText::copy_of(alloc, name.as_bytes())?,
+    };
+    Ok(Some(RepoKey { site, name }))
+}
+
 // Makes the call at the site of that place.
-fn answered<W: Wait>(
+pub(crate) fn answered<W: Wait>(
     rt: &W,
     alloc: Global,
     desk: &SharedDesk,
@@ -48,18 +66,14 @@ fn answered<W: Wait>(
     requires { IsOf (shared_of desk.now) (pass_of pass.old) }
     ensures { IsOf (shared_of desk.now) (pass_of pass.new) }
 {
-    let Some(site) = site_at(desk, at)? else {
+    let Some(key) = key_at(desk, alloc, at, name)? else {
         return Err(Mem);
     };
-    let name = Name {
-        text: SharedText::copy_of(alloc, name.as_bytes())?,
-    };
-    let key = RepoKey { site, name };
     desk.call(rt, alloc, pass, &key, call, Load::Nothing, moment)
 }
 
 // Makes the call at the site of that place, and tells what came of it.
-fn made<W: Wait>(
+pub(crate) fn made<W: Wait>(
     rt: &W,
     alloc: Global,
     desk: &SharedDesk,
@@ -85,7 +99,7 @@ fn told(alloc: Global, answer: &Answer) -> Result<String, Mem> {
     Ok(words)
 }
 
-fn decided(alloc: Global, place: &Place) -> Result<String, Mem> {
+pub(crate) fn decided(alloc: Global, place: &Place) -> Result<String, Mem> {
     let change = if place.changed { "+" } else { "" };
     match &place.cell {
         CellKey::Directory(site) => format!(in alloc; ", {}{change}", read(&site.region)),
@@ -149,5 +163,42 @@ fn a_second_caller_sees_what_the_first_one_did(rt: HostRuntime) -> Result<(), Fa
     );
     assert_eq!(rt; desk.made(&first), 2);
     assert_eq!(rt; desk.made(&second), 3);
+    Ok(())
+}
+
+#[test]
+fn one_of_many_is_answered_as_one_alone(rt: HostRuntime) -> Result<(), Fail> {
+    let alloc = rt.alloc();
+    let (desk, mut pass) = opened(alloc, 2)?;
+    let mut solo = two_sites(alloc, 2)?;
+    let mutability = Mutability::Immutable;
+    let calls = [
+        (0, "app", Call::Describe),
+        (0, "app", create()),
+        (0, "app", Call::SetMutability { mutability }),
+        (0, "app", create()),
+        (1, "app", Call::Describe),
+        (0, "web", create()),
+        (0, "api", create()),
+        (0, "web", Call::Delete { force: false }),
+        (0, "web", Call::Describe),
+        (0, "web", create()),
+        (1, "api", create()),
+    ];
+    for (at, name, call) in calls.iter() {
+        let one = made(
+            &rt,
+            alloc,
+            &desk,
+            &mut pass,
+            *at,
+            name,
+            call.clone()?,
+            FIRST,
+        )?;
+        let answer = on_solo(alloc, &mut solo, *at, name, call.clone()?, FIRST)?;
+        assert_eq!(rt; one, told(alloc, &answer)?);
+        assert_eq!(rt; desk.made(&pass), solo.made());
+    }
     Ok(())
 }

@@ -2,6 +2,7 @@ pub mod FieldLemmas
 pub mod DecisionLemmas
 pub mod FramingLemmas
 pub mod ChunkLemmas
+pub mod ChunkedLemmas
 pub mod PartLemmas
 pub mod FrontLemmas
 pub mod StreamLemmas

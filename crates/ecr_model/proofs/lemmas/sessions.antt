@@ -1,3 +1,5 @@
 pub mod SessionLemmas
 pub mod EndLemmas
 pub mod CommandLemmas
+pub mod CallerLemmas
+pub mod AlikeLemmas

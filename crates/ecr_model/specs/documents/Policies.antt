@@ -133,7 +133,8 @@ count_number selection = whole_at (codes "countNumber") selection
 
 -- the names of a selection's members
 abbrev pub selection_members : List (List ℕ)
-selection_members = codes "tagStatus" ∷ codes "tagPrefixList" ∷ codes "countType" ∷ codes "countUnit" ∷ codes "countNumber" ∷ []
+selection_members =
+    codes "tagStatus" ∷ codes "tagPrefixList" ∷ codes "countType" ∷ codes "countUnit" ∷ codes "countNumber" ∷ []
 
 -- the first cause that holds of a selection
 unfoldable pub selection_fault : Data → Option ℕ

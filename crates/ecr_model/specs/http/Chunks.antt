@@ -60,7 +60,8 @@ if_within limit so_far size part = if nat_le (so_far + size) limit then part els
 
 -- the last chunk, whose line's LF stands at that place before the trailer section; that LF is the first of the bytes
 abbrev pub last_of : ℕ → List ℕ → Option ℕ → Part
-last_of n bytes None = lacking (if nat_le (length bytes) max_trailers then open_ else too_long sections.Trailers max_trailers)
+last_of n bytes None =
+    lacking (if nat_le (length bytes) max_trailers then open_ else too_long sections.Trailers max_trailers)
 last_of n bytes (Some end) = last_chunk (n + end)
 
 -- that front, by a line with its LF at that place

@@ -51,6 +51,10 @@ pub record Terms : Type 0 where
   pub realm : Realm
   pub alone : Bool
 
+-- the terms of a caller among others
+abbrev pub among : Realm → Terms
+among realm = record { realm = realm; alone = false }
+
 -- a turn that was made: its place, and the digest of all parts of the upload that it completed
 pub record PlacedTurn : Type 0 where
   pub place : Place

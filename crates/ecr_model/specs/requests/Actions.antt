@@ -60,14 +60,16 @@ unless other parameter domain = record { parameter = parameter; domain = domain;
 -- the members of an action's body
 unfoldable pub members_of : Action → List Member
 members_of CreateRepository =
-    may RegistryId domains.Account ∷ must RepositoryName domains.RepositoryName ∷ may ImageTagMutability domains.Mutability ∷ []
+    may RegistryId domains.Account ∷ must RepositoryName domains.RepositoryName
+    ∷ may ImageTagMutability domains.Mutability ∷ []
 members_of DeleteRepository =
     may RegistryId domains.Account ∷ must RepositoryName domains.RepositoryName ∷ may Force domains.Truth ∷ []
 members_of DescribeRepositories =
     may RegistryId domains.Account ∷ may RepositoryNames domains.RepositoryNames
     ∷ unless RepositoryNames MaxResults domains.Results ∷ unless RepositoryNames NextToken domains.Token ∷ []
 members_of PutImageTagMutability =
-    may RegistryId domains.Account ∷ must RepositoryName domains.RepositoryName ∷ must ImageTagMutability domains.Mutability ∷ []
+    may RegistryId domains.Account ∷ must RepositoryName domains.RepositoryName
+    ∷ must ImageTagMutability domains.Mutability ∷ []
 
 -- ---- what is asked
 

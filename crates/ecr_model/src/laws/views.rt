@@ -42,7 +42,8 @@ pub fn alone_turns_are_runs()
     ensures runs_to { HaltsRunTo Decided }
 {}
 
-/// The definitions, at one call of one caller among others, come to what is written out in `specs/examples/ViewExample.antt`.
+/// The definitions, at one call of one caller among others, come to what is written out in
+/// `specs/examples/ViewExample.antt`.
 pub fn a_call_is_visited()
     ensures visited { ACallIsVisited }
 {}

@@ -9,7 +9,7 @@ use std::test::Fail;
 fn names_of_each_form_are_created(rt: HostRuntime) -> Result<(), Fail> {
     let longest = joined(rt.alloc(), &[("a", 256)])?;
     let longest = str::from_utf8(&longest).unwrap_or("");
-    for name in ["ab", "a__b/c--d", longest] {
+    for name in ["ab", "a__b/c--d", "a.b_c", longest] {
         check_created(
             &rt,
             rt.alloc(),
@@ -58,6 +58,7 @@ fn a_name_is_of_its_site(rt: HostRuntime) -> Result<(), Fail> {
     Ok(())
 }
 
+// pins: IsTime
 #[test]
 fn a_clock_gives_each_answer_its_moment(rt: HostRuntime) -> Result<(), Fail> {
     let alloc = rt.alloc();

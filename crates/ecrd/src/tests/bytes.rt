@@ -2,11 +2,9 @@
 // 7.1), in pieces of several sizes.
 use crate::tests::harness::{
     BAD, BAD_NAME, BODY, CHUNKED, CONTINUE, CREATE, FIELDS, LENGTH, LONG_BODY, LONG_HEAD,
-    MADE_BODY, MADE_HEAD, NOT_FOUND, POST, Parts, THERE, WORDS, check, joined, run, words,
+    MADE_BODY, MADE_HEAD, NOT_FOUND, POST, Parts, THERE, WORDS, check, joined, run,
 };
 use ecr_model::End;
-use ecr_outside::{MemClock, MemSink, MemSource};
-use ecr_serve::solo;
 use std::alloc::{AllocError, Global};
 use std::process::Abort;
 use std::test::Fail;
@@ -203,41 +201,5 @@ fn each_cut_of_a_request_ends_as_it_must(rt: HostRuntime) -> Result<(), Fail> {
             check_cut(&rt, rt.alloc(), &input, head, interim, &output, cut)?;
         }
     }
-    Ok(())
-}
-
-// A creation whose reads and writes of those numbers fail ends with that status.
-fn check_fault(
-    rt: &impl Abort,
-    alloc: Global,
-    reads: &[u64],
-    writes: &[u64],
-    status: u8,
-) -> Result<(), AllocError> {
-    let bytes = Vec::from_slice(alloc, CREATE.as_bytes())?;
-    let mut source = MemSource::new(bytes, Vec::new(alloc), Vec::from_slice(alloc, reads)?);
-    let mut sink = MemSink::new(alloc, Vec::new(alloc), Vec::from_slice(alloc, writes)?);
-    let mut clock = MemClock::new(Vec::new(alloc));
-    let words = words(alloc, &WORDS)?;
-    let ended = solo(alloc, &words, &mut source, &mut sink, &mut clock);
-    assert!(rt; ended.status == status);
-    Ok(())
-}
-
-#[test]
-fn a_fault_ends_a_session(rt: HostRuntime) -> Result<(), Fail> {
-    check_fault(&rt, rt.alloc(), &[0], &[], 3)?;
-    check_fault(&rt, rt.alloc(), &[], &[0], 4)?;
-    check_fault(&rt, rt.alloc(), &[], &[1], 4)?;
-    Ok(())
-}
-
-#[test]
-fn other_words_are_answered_by_the_lines_of_usage(rt: HostRuntime) -> Result<(), Fail> {
-    let (ended, held) = run(rt.alloc(), &["session"], &[], b"", &[])?;
-    assert_eq!(rt; ended.status, 2);
-    let lines =
-        b"usage: ecrd session [--control] [--clock S] SITE...\n       ecrd bulk SEED COUNT\n       ecrd serve [--workers N] [--copiers N] ADDRESS SITE...\n";
-    assert!(rt; held.as_slice() == lines.as_slice());
     Ok(())
 }

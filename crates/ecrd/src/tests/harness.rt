@@ -125,7 +125,7 @@ fn put_head(alloc: Global, bytes: &mut Vec<u8>, head: &str, size: usize) -> Resu
 }
 
 // The messages of a text, between lines of `----`, as bytes.
-fn messages(alloc: Global, text: &str) -> Result<Vec<u8>, AllocError> {
+pub(crate) fn messages(alloc: Global, text: &str) -> Result<Vec<u8>, AllocError> {
     let mut bytes = Vec::new(alloc);
     for message in text.trim().split("\n----\n") {
         put_message(alloc, &mut bytes, message)?;

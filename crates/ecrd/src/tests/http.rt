@@ -149,6 +149,7 @@ Connection: close
 Content-Length: 0
 "#;
 
+// pins: Parses, Stops, AwaitsBody
 #[test]
 fn sessions_answer_as_they_must(rt: HostRuntime) -> Result<(), Fail> {
     let cases: [(&str, &str); 8] = [

@@ -53,6 +53,7 @@ fn filled(alloc: Global, text: &Filled, size: usize) -> Result<Vec<u8>, AllocErr
     Ok(bytes)
 }
 
+// pins: IsEnd, HasNoEnd, EndsAt, IsFront, Says, IsPart, Comes, IsChunked, Meets, Lacks
 #[test]
 fn heads_lines_and_trailers_end_at_their_limits(rt: HostRuntime) -> Result<(), Fail> {
     let cases: [(Filled, usize, Parts, End); 9] = [

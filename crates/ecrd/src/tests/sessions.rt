@@ -7,10 +7,10 @@ use crate::tests::harness::{
     check_text, joined, words,
 };
 use ecr_cells::SoloDesk;
-use ecr_model::{End, Limits, SharedText, SiteId};
+use ecr_model::{CellKey, Cut, End, Limits, Place, SharedText, SiteId};
 use ecr_outside::{Got, MemClock, MemSink, MemSource, Sink, Source, Took};
 use ecr_serve::solo;
-use ecr_session::{Mode, session_still};
+use ecr_session::{Mode, SessionEnd, session_still};
 use std::alloc::{AllocError, Global};
 use std::cell::Cell;
 use std::process::Abort;
@@ -37,19 +37,50 @@ fn an_absent_repository_has_no_mutability(rt: HostRuntime) -> Result<(), Fail> {
     Ok(())
 }
 
-// A session at that desk gives that output.
+// Of a place: whether its cell is the site's directory, its ticket, and whether an entry was added.
+type At = (bool, u64, bool);
+
+fn at(place: &Place) -> At {
+    (
+        matches!(place.cell, CellKey::Directory(_)),
+        place.ticket,
+        place.changed,
+    )
+}
+
+// The account of a session has one item for each request: so many entries, and turns at these places.
+fn check_account(rt: &impl Abort, ended: &SessionEnd<()>, requests: &[(u64, &[At])]) {
+    assert_eq!(rt; ended.cuts.len(), requests.len());
+    assert_eq!(rt; ended.places.len(), requests.len());
+    assert_eq!(rt; ended.moments.len(), requests.len());
+    for (number, (entries, places)) in requests.iter().enumerate() {
+        let cut = Cut {
+            entries: *entries,
+            failed: false,
+            sealed: None,
+        };
+        assert_eq!(rt; ended.cuts[number], cut, "{number}");
+        assert_eq!(rt; ended.moments[number], 1_700_000_000, "{number}");
+        assert_eq!(rt; ended.places[number].len(), places.len(), "{number}");
+        for (place, want) in ended.places[number].iter().zip(places.iter()) {
+            assert_eq!(rt; at(place), *want, "{number}");
+        }
+    }
+}
+
+// A session at that desk gives that output and that account.
 fn serve(
     rt: &impl Abort,
     alloc: Global,
     desk: &mut SoloDesk,
-    input: &str,
-    output: Parts,
+    input: &[u8],
+    output: &[u8],
+    requests: &[(u64, &[At])],
 ) -> Result<(), AllocError>
     requires { 0 < length (still_state_of desk.old).realm.served }
     ensures { (still_state_of desk.new).realm ≡ (still_state_of desk.old).realm }
 {
-    let bytes = Vec::from_slice(alloc, input.as_bytes())?;
-    let output = joined(alloc, output)?;
+    let bytes = Vec::from_slice(alloc, input)?;
     let mut source = MemSource::new(bytes, Vec::new(alloc), Vec::new(alloc));
     let mut sink = MemSink::new(alloc, Vec::new(alloc), Vec::new(alloc));
     let mut clock = MemClock::new(Vec::new(alloc));
@@ -58,11 +89,25 @@ fn serve(
         fixed: Some(1_700_000_000),
     };
     let ended = session_still(alloc, desk, mode, &mut source, &mut sink, &mut clock);
-    assert!(rt; sink.held() == output.as_slice());
+    assert!(rt; sink.held() == output);
     assert!(rt; ended.end == End::Whole);
+    check_account(rt, &ended, requests);
     Ok(())
 }
 
+// A turn in the directory, and then one in the repository.
+const NEW: &[At] = &[(true, 0, true), (false, 0, true)];
+
+const KNOWN: &[At] = &[(true, 1, false), (false, 1, false)];
+
+const CHANGED: &[At] = &[(true, 1, false), (false, 1, true)];
+
+const AGAIN: &[At] = &[(true, 1, false), (false, 2, true)];
+
+const DELETION: &str =
+    "POST / HTTP/1.1\r\nHost: localhost\r\nContent-Length: 29\r\nX-Amz-Target: AmazonEC2ContainerRegistry_V20150921.DeleteRepository\r\n\r\n{\"repositoryName\":\"team/app\"}";
+
+// pins: Counts, IsPlaced, IsServed, Chain, ServicedBy, Serves, ServesBy, Serviced, Completed, entries_in
 #[test]
 fn a_session_finds_what_the_one_before_it_left(rt: HostRuntime) -> Result<(), Fail> {
     let alloc = rt.alloc();
@@ -71,14 +116,27 @@ fn a_session_finds_what_the_one_before_it_left(rt: HostRuntime) -> Result<(), Fa
         account: SharedText::copy_of(alloc, b"111122223333")?,
     };
     let mut desk = SoloDesk::new(alloc, vec![in alloc; site]?, Limits::standard())?;
+    let made = joined(alloc, &[(MADE_HEAD, 1), (MADE_BODY, 1)])?;
+    serve(&rt, alloc, &mut desk, CREATE.as_bytes(), &made, &[(2, NEW)])?;
+    let input = joined(alloc, &[(CREATE, 2), (DELETION, 1), (CREATE, 1)])?;
+    let output = joined(
+        alloc,
+        &[
+            (THERE, 2),
+            (MADE_HEAD, 1),
+            (MADE_BODY, 1),
+            (MADE_HEAD, 1),
+            (MADE_BODY, 1),
+        ],
+    )?;
     serve(
         &rt,
         alloc,
         &mut desk,
-        CREATE,
-        &[(MADE_HEAD, 1), (MADE_BODY, 1)],
+        &input,
+        &output,
+        &[(0, KNOWN), (0, KNOWN), (1, CHANGED), (1, AGAIN)],
     )?;
-    serve(&rt, alloc, &mut desk, CREATE, &[(THERE, 1)])?;
     Ok(())
 }
 

@@ -10,4 +10,5 @@ returns-in-Ok c = c.below_places.ensures
     ∙ sym (token_place-Ok c.args.text.now c.parse.result c.in-Ok.place c.parse.ensures.value.0 c.in-Ok.is cc)
 
 pub returns-in-Err : goal.returns-in-Err
-returns-in-Err c = sym (token_place-Err c.args.text.now c.parse.result c.in-Err.field-0 c.parse.ensures.value.0 c.in-Err.is cc)
+returns-in-Err c = sym (token_place-Err c.args.text.now c.parse.result c.in-Err.field-0 c.parse.ensures.value.0
+    c.in-Err.is cc)

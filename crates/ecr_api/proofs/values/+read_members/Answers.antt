@@ -10,7 +10,8 @@ pub returns-in_ok-push-in-Some : goal.returns-in_ok-push-in-Some
 returns-in_ok-push-in-Some n c =
     let body = view c.args.body.now in
     let read = ap (option_map valued_of) (sym c.in-Some.is) ∙ c.typed_member.ensures in
-    let first = all_typed-first c.args.values.now.items c.in-Some.value c.args.members.now _ body c.in-len1-up.len_at_least read in
+    let first = all_typed-first c.args.values.now.items c.in-Some.value c.args.members.now _ body
+    c.in-len1-up.len_at_least read in
     let pushed = ap (λ l. option_map (λ more. valued_members l ++ more)
     (all_typed (slice_range c.args.members.now 1 (length c.args.members.now)) body))
     (sym c.in_ok-push-in-Some.ensures.items) in

@@ -42,10 +42,12 @@ pub returns-clause-kept : goal.returns-clause-kept
 returns-clause-kept c =
     let served = c.args.served.now in
     let whole : take c.loop-site.site-index served ≡ served =
-    take_all c.loop-site.site-index served (subst (λ (xs : List SiteId). length xs ≤ c.loop-site.site-index) c.as_slice-site-items.ensures.items c.loop-site-test.false) in
+    take_all c.loop-site.site-index served (subst (λ (xs : List SiteId). length xs ≤ c.loop-site.site-index)
+    c.as_slice-site-items.ensures.items c.loop-site-test.false) in
     AreKept-empty served c.args.limits c.loop-site.cells.entries c.loop-site.invariant.empty
     (All-same (λ s. IsSome (site_at c.loop-site.cells.entries s)) served (take c.loop-site.site-index served)
     (sym whole) c.loop-site.invariant.all)
 
 pub returns-clause-fresh : goal.returns-clause-fresh
-returns-clause-fresh c = world_of-empty c.args.served.now c.args.limits c.loop-site.cells.entries c.loop-site.invariant.empty
+returns-clause-fresh c = world_of-empty c.args.served.now c.args.limits c.loop-site.cells.entries
+    c.loop-site.invariant.empty

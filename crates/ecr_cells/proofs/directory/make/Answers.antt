@@ -11,7 +11,8 @@ returns-in-Knows-clause-turned c =
     let s = c.args.state.now in
     subst (λ (d : Deed). IsDirectoryTurn s s c.args.ticket c.args.caller (ask_of d) (done.Known c.knows.result))
     (sym c.in-Knows.is)
-    (IsDirectoryTurn-knows s c.args.ticket c.args.caller c.in-Knows.name c.knows.result c.a_journal_is_sound.ensures.sound c.requires.later c.knows.ensures.known)
+    (IsDirectoryTurn-knows s c.args.ticket c.args.caller c.in-Knows.name c.knows.result
+    c.a_journal_is_sound.ensures.sound c.requires.later c.knows.ensures.known)
 
 pub returns-in_ok-registered-in-Register-clause-turned : goal.returns-in_ok-registered-in-Register-clause-turned
 returns-in_ok-registered-in-Register-clause-turned c =
@@ -19,7 +20,8 @@ returns-in_ok-registered-in-Register-clause-turned c =
     let r = c.in_ok-registered-in-Register.registered in
     subst (λ (d : Deed). IsDirectoryTurn s c.register.new.self c.args.ticket c.args.caller (ask_of d)
     (done.Registered r)) (sym c.in-Register.is)
-    (IsDirectoryTurn-register s c.register.new.self c.args.ticket c.args.caller c.in-Register.name r c.a_journal_is_sound.ensures.sound c.requires.later
+    (IsDirectoryTurn-register s c.register.new.self c.args.ticket c.args.caller c.in-Register.name r
+    c.a_journal_is_sound.ensures.sound c.requires.later
     c.in_ok-registered-in-Register.ensures.exact c.in_ok-registered-in-Register.ensures.entered)
 
 pub returns-in_ok-reply-in-OnSite-clause-turned : goal.returns-in_ok-reply-in-OnSite-clause-turned
@@ -28,5 +30,6 @@ returns-in_ok-reply-in-OnSite-clause-turned c =
     let reply = c.in_ok-reply-in-OnSite.reply in
     subst (λ (d : Deed). IsDirectoryTurn s s c.args.ticket c.args.caller (ask_of d) (done.Listed reply))
     (sym c.in-OnSite.is)
-    (IsDirectoryTurn-site_call s c.args.ticket c.args.caller c.in-OnSite.call reply c.a_journal_is_sound.ensures.sound c.requires.later
+    (IsDirectoryTurn-site_call s c.args.ticket c.args.caller c.in-OnSite.call reply c.a_journal_is_sound.ensures.sound
+    c.requires.later
     c.in_ok-reply-in-OnSite.ensures.exact c.in_ok-reply-in-OnSite.ensures.asks)

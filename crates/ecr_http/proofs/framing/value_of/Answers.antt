@@ -11,8 +11,18 @@ pub overflow_add-value : goal.overflow_add-value
 overflow_add-value c =
     let ds = c.args.digits.now in
     let i = c.loop-digit.digit-index in
-    omega (arith, c.loop-digit.invariant, digits_value-more ds i c.requires c.loop-digit-test.true, digits_value-short ds (i + 1) c.requires)
+    omega (
+      arith,
+      c.loop-digit.invariant,
+      digits_value-more ds i c.requires c.loop-digit-test.true,
+      digits_value-short ds (i + 1) c.requires,
+    )
 
 pub loop-digit-preserved : goal.loop-digit-preserved
 loop-digit-preserved c =
-    omega (arith, c.loop-digit.invariant, digits_value-more c.args.digits.now c.loop-digit.digit-index c.requires c.loop-digit-test.true)
+    omega (
+      arith,
+      c.loop-digit.invariant,
+      digits_value-more c.args.digits.now c.loop-digit.digit-index c.requires
+          c.loop-digit-test.true,
+    )

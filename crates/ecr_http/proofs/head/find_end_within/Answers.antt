@@ -5,7 +5,8 @@ use Rattle.ecr_http.proofs.head.find_end_within.Goals as goal
 pub returns-in_default : goal.returns-in_default
 returns-in_default c = record {
   end = λ k within.
-      HasNoEnd-no_line c.args.bytes.now c.loop-looked.looked c.min-last.result c.loop-looked.invariant.1 c.in_default.ensures k
+      HasNoEnd-no_line c.args.bytes.now c.loop-looked.looked c.min-last.result c.loop-looked.invariant.1
+      c.in_default.ensures k
       (omega (arith, c.min-last.ensures));
 }
 

@@ -17,5 +17,6 @@ unfolding interim
 returns-clause-sends g c =
     let held = g.K.Sink.held c.args.sink.now in
     let told = g.K.Sink.held c.send.new.sink in
-    subst (λ (due : Bool). Sends held told (interim due) c.send.result) (sym c.if-not-waits.false ∙ c.waits.ensures.waits)
+    subst (λ (due : Bool). Sends held told (interim due) c.send.result) (sym c.if-not-waits.false
+    ∙ c.waits.ensures.waits)
     (subst (λ (l : List ℕ). Sends held told l c.send.result) c.continue_reply.ensures c.send.ensures.sends)

@@ -10,7 +10,8 @@ loop-blob-preserved g c =
     let before = c.loop-blob.invariant.later in
     let later = c.in-Done.ensures.later in
     record {
-      sent = Appends-blob _ _ _ c.args.blobs.now c.loop-blob.blob-index c.blob-item.result c.loop-blob-test.true c.blob-item.is c.loop-blob.invariant.sent
+      sent = Appends-blob _ _ _ c.args.blobs.now c.loop-blob.blob-index c.blob-item.result c.loop-blob-test.true
+          c.blob-item.is c.loop-blob.invariant.sent
           (subst (λ l. Appends (g.K.Sink.held c.loop-blob.sink)
           (g.K.Sink.held c.send.new.sink) l) c.bytes.ensures.exact c.in-Done.ensures.sends);
       later = omega arith;
@@ -18,6 +19,7 @@ loop-blob-preserved g c =
 
 pub returns-in-WriteFault-clause-sends : goal.returns-in-WriteFault-clause-sends
 returns-in-WriteFault-clause-sends g c =
-    Sends-blob_cut _ _ _ c.args.blobs.now c.loop-blob.blob-index c.blob-item.result c.loop-blob-test.true c.blob-item.is c.loop-blob.invariant.sent
+    Sends-blob_cut _ _ _ c.args.blobs.now c.loop-blob.blob-index c.blob-item.result c.loop-blob-test.true c.blob-item.is
+    c.loop-blob.invariant.sent
     (subst (λ l. Sends (g.K.Sink.held c.loop-blob.sink)
     (g.K.Sink.held c.send.new.sink) l WriteFault) c.bytes.ensures.exact c.in-WriteFault.ensures.sends)

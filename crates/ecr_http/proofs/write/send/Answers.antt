@@ -19,4 +19,5 @@ loop-at-preserved g c =
     }
 
 pub returns-in-Failed-clause-sends : goal.returns-in-Failed-clause-sends
-returns-in-Failed-clause-sends g c = Sends-failed _ _ _ c.args.piece.now c.loop-at.at c.loop-at-test.true c.loop-at.invariant.sent c.in-Failed.ensures.bytes
+returns-in-Failed-clause-sends g c = Sends-failed _ _ _ c.args.piece.now c.loop-at.at c.loop-at-test.true
+    c.loop-at.invariant.sent c.in-Failed.ensures.bytes

@@ -67,7 +67,8 @@ skip_items-items-preserved t c =
     (rw (← going.1) right)
 
 pub skip_items-returns : goal.skip_items-returns
-skip_items-returns t c = PassesItems-over c.args.depth c.args.reader.now c.items.reader c.take_end_array.new.self c.items.invariant (grind arith)
+skip_items-returns t c = PassesItems-over c.args.depth c.args.reader.now c.items.reader c.take_end_array.new.self
+    c.items.invariant (grind arith)
 
 pub skip_members-members-init : goal.skip_members-members-init
 skip_members-members-init t c =
@@ -100,7 +101,8 @@ skip_members-members-preserved t c =
     let name = c.in-Ok-Some.field-0-0.now in
     let key : read_key c.members.reader ≡ Some (Some name, s) = grind arith in
     let right : passed c.args.depth s ≡ Some c.skip.new.reader = grind arith in
-    PassesMembers-more c.args.depth c.args.reader.now c.members.reader name s c.skip.new.reader c.members.invariant key right
+    PassesMembers-more c.args.depth c.args.reader.now c.members.reader name s c.skip.new.reader
+    c.members.invariant key right
 
 pub skip_members-returns-in-Ok-None : goal.skip_members-returns-in-Ok-None
 skip_members-returns-in-Ok-None t c =

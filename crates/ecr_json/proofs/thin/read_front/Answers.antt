@@ -23,4 +23,5 @@ returns-in_default-token c =
     let names = map (λ n. n.now) c.args.names.now in
     let first : c.args.reader.now ≡ token_of c.in-Some.token ∷ c.next.new.self = grind arith in
     let other = opens-other c.in-Some.token c.in_default-token.not-BeginObject in
-    rw first (KeepsOf-other names (token_of c.in-Some.token) c.next.new.self c.pass.new.reader c.pass.result _ other c.pass.ensures c.null_if.ensures)
+    rw first (KeepsOf-other names (token_of c.in-Some.token) c.next.new.self c.pass.new.reader c.pass.result _ other
+    c.pass.ensures c.null_if.ensures)

@@ -20,7 +20,8 @@ items-preserved c =
     let text : c.items.reader ≡ Token.string c.in-String.text.now ∷ c.next.new.self =
     sym going.1 ∙ first ∙ ap (λ k. token_of k ∷ c.next.new.self) c.in-String.is in
     let h = c.items.invariant in
-    ReadsTexts-more c.args.depth c.args.reader.now c.items.reader c.items.texts.items h c.in-String.text.now c.next.new.self c.keep.new.texts.items text
+    ReadsTexts-more c.args.depth c.args.reader.now c.items.reader c.items.texts.items h c.in-String.text.now
+    c.next.new.self c.keep.new.texts.items text
     (c.in_ok-keep.ensures h.texts h.kept)
 
 pub returns-in_default-token : goal.returns-in_default-token
@@ -34,5 +35,6 @@ returns-in_default-token c =
 pub returns : goal.returns
 returns c =
     let over : after_end_array c.items.reader ≡ Some c.take_end_array.new.self = grind arith in
-    ReadsTexts-over c.args.depth c.args.reader.now c.items.reader c.items.texts.items c.take_end_array.new.self c.items.invariant over
+    ReadsTexts-over c.args.depth c.args.reader.now c.items.reader c.items.texts.items c.take_end_array.new.self
+    c.items.invariant over
     ∙ ap (λ d. Some (d, c.take_end_array.new.self)) (sym (view-Array c.items.texts))

@@ -49,7 +49,8 @@ pub returns-then-depth-gt0-2 : goal.returns-then-depth-gt0-2
 returns-then-depth-gt0-2 c =
     let is = ap (λ k. thin_value c.args.depth (token_of k ∷ c.args.reader.now)) c.in-BeginObject.is in
     is ∙ thin_value-object c.args.depth c.args.reader.now (omega arith)
-    ∙ emptied_list-if c.skip_members.result _ c.skip_members.new.reader c.empty_if.result c.skip_members.ensures c.empty_if.ensures
+    ∙ emptied_list-if c.skip_members.result _ c.skip_members.new.reader c.empty_if.result c.skip_members.ensures
+    c.empty_if.ensures
 
 pub returns-else-depth-gt0-2 : goal.returns-else-depth-gt0-2
 returns-else-depth-gt0-2 c =

@@ -34,7 +34,8 @@ loop-digest-preserved c =
           }
       | else-branch w ↦
           let items : c.if-branch.kept.items ≡ kept = cc (w.kept-is) in
-          let there : was ≡ true = there_where_old c.in_ok-note.field-0 was w.if-branch.false c.in_ok-note.ensures.new in
+          let there : was ≡ true = there_where_old c.in_ok-note.field-0 was w.if-branch.false
+          c.in_ok-note.ensures.new in
           let same = where_false c.in_ok-note.field-0
           ((q : List ℕ) → contains (slice_cmp nat_cmp) c.note.new.seen q ≡ contains
           (slice_cmp nat_cmp) c.loop-digest.seen q) w.if-branch.false c.in_ok-note.ensures.same in

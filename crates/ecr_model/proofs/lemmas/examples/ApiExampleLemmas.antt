@@ -18,7 +18,9 @@ use Rattle.ecr_model.specs.names.Uploads.{upload_id}
 
 -- the example bodies are read as their table says
 pub bodies_are_read : BodiesAreRead
-unfolding reading action_of members_of typed_reading values_reading made_by made_in document typed_members first_bad token_place is_decimal digits_value site_of_account is_name parameter_text utf8_valid_len is_utf8 chars serde_json_on_literals
+unfolding reading action_of members_of typed_reading values_reading made_by made_in document typed_members first_bad
+    token_place is_decimal digits_value site_of_account is_name parameter_text utf8_valid_len is_utf8 chars
+    serde_json_on_literals
 bodies_are_read = record {
   created = refl;
   immutable = refl;
@@ -40,5 +42,6 @@ bodies_are_read = record {
 
 -- the example replies are written as their table says
 pub replies_are_written : RepliesAreWritten
-unfolding refusal_body refusal_data type_text message_text upload_id encode_with json reply_data repository_data json_head connection_line utf8_or_empty arn_of uri_of utf8_valid_len is_utf8 chars digits serde_json_on_literals
+unfolding refusal_body refusal_data type_text message_text upload_id encode_with json reply_data repository_data
+    json_head connection_line utf8_or_empty arn_of uri_of utf8_valid_len is_utf8 chars digits serde_json_on_literals
 replies_are_written = record { part = refl; first_part = refl; limit = refl; rows = refl }

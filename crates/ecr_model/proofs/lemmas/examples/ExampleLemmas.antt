@@ -41,7 +41,9 @@ abbrev creation : Posed
 creation = api (asks (cell first_key (Create Mutable) None))
 
 posed : posed_of example_sites first_request ≡ creation
-unfolding posed_of is_json_call site_for named_site without_port reading action_of members_of typed_reading values_reading made_by made_in document typed_members first_bad parameter_text is_name utf8_valid_len is_utf8 chars serde_json_on_literals
+unfolding posed_of is_json_call site_for named_site without_port reading action_of members_of typed_reading
+    values_reading made_by made_in document typed_members first_bad parameter_text is_name utf8_valid_len is_utf8 chars
+    serde_json_on_literals
 posed = refl
 
 abbrev ran : Run Decided
@@ -49,11 +51,14 @@ ran = run example_realm fresh (posed_script creation 1700000000)
 
 -- the reply, the number of entries and the places of its turns
 answered : (ran.answer ≡ plain (Created 1700000000 Mutable)) × (ran.entries ≡ 2) × (ran.places ≡ first_places)
-unfolding posed_script asked_script call_script first_turn then_cell then_do run entered turn_at with_lines parts_after fresh replay directory_after_line first_directory registration standard steps.step steps.first_state steps.after_line
+unfolding posed_script asked_script call_script first_turn then_cell then_do run entered turn_at with_lines parts_after
+    fresh replay directory_after_line first_directory registration standard steps.step steps.first_state
+    steps.after_line
 answered = (refl, refl, refl)
 
 rendered : posed_bytes creation false (Created 1700000000 Mutable) [] ≡ first_answer
-unfolding posed_bytes json reply_data repository_data json_head connection_line utf8_or_empty arn_of uri_of utf8_valid_len is_utf8 chars digits serde_json_on_literals
+unfolding posed_bytes json reply_data repository_data json_head connection_line utf8_or_empty arn_of uri_of
+    utf8_valid_len is_utf8 chars digits serde_json_on_literals
 rendered = refl
 
 -- the outcome of a request, by what it poses
@@ -104,7 +109,11 @@ unfolding interim waits framing_of max_body
 a_first_session_is_written = (
   (
     record first_standing { world = left_by example_realm fresh 1700000000 first_cut first_request },
-    (record first_standing { world = left_by example_realm fresh 1700000000 first_cut first_request }, first_served, refl),
+    (
+      record first_standing { world = left_by example_realm fresh 1700000000 first_cut first_request },
+      first_served,
+      refl,
+    ),
   ),
   append-nil (first_answer ++ []) ∙ append-nil first_answer,
 )

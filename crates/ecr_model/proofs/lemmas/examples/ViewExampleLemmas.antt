@@ -11,7 +11,9 @@ use Rattle.ecr_model.specs.registry.Views.{with_view, Visits, answer_at, entered
 
 -- the example's call makes both of its turns, and its answer stays
 pub a_call_is_visited : ACallIsVisited
-unfolding standard replay steps.step steps.first_state steps.after_line directories.directory_after_line directories.first_directory directories.registration turn_at with_view then_do call_script first_turn then_cell Visits answer_at entered_in
+unfolding standard replay steps.step steps.first_state steps.after_line directories.directory_after_line
+    directories.first_directory directories.registration turn_at with_view then_do call_script first_turn then_cell
+    Visits answer_at entered_in
 a_call_is_visited = record {
   visited = (
     of_directory,

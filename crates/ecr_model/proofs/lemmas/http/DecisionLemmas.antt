@@ -50,7 +50,7 @@ Then_decided {A} {B} {G} {H} det first next = record { decide = λ text. front t
 abbrev pub Starts : List ℕ → List ℕ → Type 0
 Starts bytes text = (rest : List ℕ) × (text ≡ bytes ++ rest)
 
-pub starts : (bytes text : List ℕ) → Starts bytes text ⊎ ¬ (Starts bytes text)
+starts : (bytes text : List ℕ) → Starts bytes text ⊎ ¬ (Starts bytes text)
 starts [] text = inl (text, refl)
 starts (b ∷ bytes) [] = inr (λ z. cc (z.1))
 starts (b ∷ bytes) (c ∷ text) = by (cases_eq c b) (starts bytes text)
@@ -61,7 +61,7 @@ starts (b ∷ bytes) (c ∷ text) = by (cases_eq c b) (starts bytes text)
     by (inl same) (inr none) = inr (λ z. none (z.0, cc (z.1)))
     by (inr other) y = inr (λ z. other (cc (z.1)))
 
-pub newline : (text : List ℕ) → Begins Newline text ⊎ ¬ (Begins Newline text)
+newline : (text : List ℕ) → Begins Newline text ⊎ ¬ (Begins Newline text)
 newline text = by (starts (print_end crlf) text) (starts (print_end lf) text)
   where
     neither : ¬ (Starts (print_end crlf) text) → ¬ (Starts (print_end lf) text) → (e : LineEnd) (rest : List ℕ)
@@ -75,10 +75,11 @@ newline text = by (starts (print_end crlf) text) (starts (print_end lf) text)
     by (inr a) (inl y) = inl (lf, y.0, y.1)
     by (inr a) (inr b) = inr (λ z. neither a b z.0 z.1 z.2)
 
+-- whether a text begins with a line's end is decided
 pub Newline_decided : IsDecided Newline
 Newline_decided = record { decide = newline }
 
-pub version : (text : List ℕ) → Begins Version text ⊎ ¬ (Begins Version text)
+version : (text : List ℕ) → Begins Version text ⊎ ¬ (Begins Version text)
 version text = by (starts (print_version 0) text) (starts (print_version 1) text)
   where
     neither : ¬ (Starts (print_version 0) text) → ¬ (Starts (print_version 1) text) → (minor : ℕ) (rest : List ℕ)
@@ -94,11 +95,13 @@ version text = by (starts (print_version 0) text) (starts (print_version 1) text
     by (inr a) (inl y) = inl (1, y.0, (omega arith, y.1))
     by (inr a) (inr b) = inr (λ z. neither a b z.0 z.1 z.2.0 z.2.1)
 
+-- whether a text begins with a version is decided
 pub Version_decided : IsDecided Version
 Version_decided = record { decide = version }
 
 -- ---- empty lines
 
+-- behind a line's end fewer bytes are left
 pub newline_shortens : (e : LineEnd) (text rest : List ℕ) → text ≡ print_end e ++ rest → length rest < length text
 newline_shortens crlf text rest is = omega (arith, ap length is)
 newline_shortens lf text rest is = omega (arith, ap length is)
@@ -151,6 +154,7 @@ blank_step text shorter = by (newline text)
         (λ (goes : ¬ (Stops is_newline text)). inr (λ z. goes (no_line none z.0 z.1 z.2.0 z.2.1)))
         (stops_or is_newline text)
 
+-- whether a text begins with blank lines is decided
 pub Blank_decided : IsDecided Blank
 Blank_decided = record {
   decide = λ text. by_length (λ t. Begins Blank t ⊎ ¬ (Begins Blank t)) blank_step (length text) text (omega arith);
@@ -162,7 +166,7 @@ Blank_decided = record {
 abbrev Loose : (ℕ → Bool) → ℕ → Piece (List ℕ)
 Loose test stop word text rest = AllPass test word × (text ≡ word ++ stop ∷ rest)
 
-pub loose : (test : ℕ → Bool) (stop : ℕ) → test stop ≡ false → (text : List ℕ)
+loose : (test : ℕ → Bool) (stop : ℕ) → test stop ≡ false → (text : List ℕ)
     → Begins (Loose test stop) text ⊎ ¬ (Begins (Loose test stop) text)
 loose test stop fails [] = inr (λ z. nothing z.0 z.1 z.2.1)
   where
@@ -194,7 +198,7 @@ loose test stop fails (b ∷ text) = by (test b) refl (cases_eq b stop) (loose t
     by false stops (inl same) y = inl ([], text, (All-nil (λ v. test v ≡ true), ap (λ (c : ℕ). c ∷ text) same))
     by false stops (inr other) y = inr (λ z. head stops other z.0 z.1 z.2.0 z.2.1)
 
-pub word : (test : ℕ → Bool) (stop : ℕ) → test stop ≡ false → (text : List ℕ)
+word : (test : ℕ → Bool) (stop : ℕ) → test stop ≡ false → (text : List ℕ)
     → Begins (Word test stop) text ⊎ ¬ (Begins (Word test stop) text)
 word test stop fails text = by (loose test stop fails text)
   where
@@ -210,9 +214,11 @@ word test stop fails text = by (loose test stop fails text)
     by (inl x) = some x.0 x.1 x.2.0 x.2.1
     by (inr none) = inr (λ z. none (z.0, z.1, (z.2.1, z.2.2)))
 
+-- whether a text begins with a word and the byte that stops it is decided
 pub Word_decided : (test : ℕ → Bool) (stop : ℕ) → test stop ≡ false → IsDecided (Word test stop)
 Word_decided test stop fails = record { decide = word test stop fails }
 
+-- whether a text begins with a method is decided
 pub Method_decided : IsDecided Method
 Method_decided = record { decide = word is_token_byte 32 space_ends_token }
 
@@ -231,6 +237,7 @@ target text = by (word is_uri_byte 32 refl text)
     by (inl x) = read x (is_utf8 x.0) refl
     by (inr none) = inr (λ z. none (z.0, z.1, z.2.0))
 
+-- whether a text begins with a target is decided
 pub Target_decided : IsDecided Target
 Target_decided = record { decide = target }
 
@@ -264,6 +271,7 @@ value_text (b ∷ text) = by (newline (b ∷ text)) (is_value_byte b) refl (valu
     by (inr no_end) false fails y = inr λ z.
         none_at no_end (λ passes. absurd (both_ways (is_value_byte b) fails passes)) z.0.0 z.0.1 z.1 z.2.0 z.2.1
 
+-- whether a text begins with a field's value is decided
 pub Text_decided : IsDecided Text
 Text_decided = record { decide = value_text }
 
@@ -322,6 +330,7 @@ section_step text shorter = by (newline text) (field_line text)
     by (inr no_end) (inl y) = line y.0 y.1 y.2 (shorter y.1 (field_shortens y.0 text y.1 y.2.1))
     by (inr no_end) (inr no_field) = inr (λ z. ⊎_elim no_end no_field (Section_line z.0 text z.1 z.2))
 
+-- whether a text begins with a section of fields is decided
 pub Section_decided : IsDecided Section
 Section_decided = record {
   decide = λ text. by_length (λ t. Begins Section t ⊎ ¬ (Begins Section t)) section_step (length text) text
@@ -342,7 +351,7 @@ RequestHead_decided =
 
 -- ---- a chunk's line
 
-pub run : (test : ℕ → Bool) (text : List ℕ) → Begins (Run test) text ⊎ ¬ (Begins (Run test) text)
+run : (test : ℕ → Bool) (text : List ℕ) → Begins (Run test) text ⊎ ¬ (Begins (Run test) text)
 run test [] = inr (λ z. nothing z.0 z.1 z.2.1 z.2.2)
   where
     nothing : (w rest : List ℕ) → [] ≡ w ++ rest → Stops test rest → ⊥

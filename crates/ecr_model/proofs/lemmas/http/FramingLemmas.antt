@@ -7,6 +7,7 @@ use Rattle.ecr_model.specs.declared.http.Head.{Head}
 use Rattle.ecr_model.specs.http.Fields.{head_of}
 use Rattle.ecr_model.specs.http.Framing.{ends_empty, IsEnd, HasNoEnd, EndsAt, Parses}
 
+-- whether an empty line ends at a place is settled by the bytes before it
 pub ends_empty-append : (bytes more : List ℕ) (n : ℕ) → n ≤ length bytes
     → ends_empty (bytes ++ more) n ≡ ends_empty bytes n
 unfolding ends_empty
@@ -43,6 +44,7 @@ unfolding ends_empty
 IsEnd-positive limit bytes zero is = absurd (cc (is.ends))
 IsEnd-positive limit bytes (suc n) is = omega arith
 
+-- the first empty line ends in one place
 pub IsEnd-unique : (limit : ℕ) (bytes : List ℕ) (n m : ℕ) → IsEnd limit bytes n → IsEnd limit bytes m → n ≡ m
 IsEnd-unique limit bytes n m a b = ⊎_elim (λ same. same)
     (⊎_elim (λ below. absurd (both_ways _ (b.first n below) a.ends))

@@ -10,7 +10,7 @@ use Rattle.ecr_model.specs.http.Framing.{max_head, max_body, ends_empty, IsEnd, 
 pub use Rattle.ecr_model.specs.http.Fronts.{is_settled_lack, is_settled_body}
 use Rattle.ecr_model.specs.declared.http.Section.TheVariants as sections
 use Rattle.ecr_model.specs.http.Stream.{bad, too_long, open_, Front, whole, short, BodyFront, complete, lacks, sized_front, IsBody, with_body, IsFramed, IsHeaded, ParsesTo, IsFront}
-use Rattle.ecr_model.proofs.lemmas.http.ChunkLemmas.{IsChunked-unique, IsChunked-append, IsChunked-length}
+use Rattle.ecr_model.proofs.lemmas.http.ChunkedLemmas.{IsChunked-unique, IsChunked-append, IsChunked-length}
 use Rattle.ecr_model.proofs.lemmas.http.FramingLemmas.{IsEnd-append, HasNoEnd-append, IsEnd-positive, EndsAt-unique, Parses-unique}
 
 -- it is said what stands there, whatever follows
@@ -20,6 +20,7 @@ is_settled (short due lack) = is_settled_lack lack
 
 -- ---- from what is known of the bytes to their front
 
+-- bytes below the limit of a head in which no empty line ends are an open head
 pub IsFront-no_head : (at : ℕ) (bytes : List ℕ) → HasNoEnd bytes (length bytes) → length bytes < max_head
     → IsFront at bytes (short false open_)
 IsFront-no_head at bytes none_ends small = record {
@@ -76,6 +77,7 @@ IsFront-body at bytes n head framing body ends parses framed stands = record {
 
 -- ---- bodies
 
+-- bytes have at most one front as a body
 pub IsBody-unique : (limit : ℕ) (bytes : List ℕ) (framing : Framing) (x y : BodyFront)
     → IsBody limit bytes framing x → IsBody limit bytes framing y → x ≡ y
 IsBody-unique limit bytes (Sized size) x y a b = a ∙ sym b
@@ -127,6 +129,7 @@ sized-append limit size bytes more true false fit come settled =
     sym (ap is_settled_body (sized-open limit size bytes fit come)) ∙ settled in
     absurd (cc)
 
+-- a settled front of a body stays where more bytes follow
 pub IsBody-append : (limit : ℕ) (bytes more : List ℕ) (framing : Framing) (body : BodyFront)
     → is_settled_body body ≡ true
     → IsBody limit bytes framing body → IsBody limit (bytes ++ more) framing body
@@ -138,7 +141,8 @@ IsBody-append limit bytes more Chunked body settled is = IsChunked-append limit 
 sized-length : (limit size : ℕ) (bytes content : List ℕ) (n : ℕ) (fits there : Bool) → nat_le size limit ≡ fits
     → nat_le size (length bytes) ≡ there → complete content n ≡ sized_front limit bytes size → n ≤ length bytes
 sized-length limit size bytes content n false there fit come is =
-    let clash : complete content n ≡ lacks (too_long sections.Body limit) = is ∙ sized-too_long limit size bytes fit in absurd (cc)
+    let clash : complete content n ≡ lacks (too_long sections.Body limit) = is ∙ sized-too_long limit size bytes fit in
+    absurd (cc)
 sized-length limit size bytes content n true true fit come is =
     let same : complete content n ≡ complete (take size bytes) size = is ∙ sized-complete limit size bytes fit come in
     let lengths : n ≡ size = cc in

@@ -99,7 +99,8 @@ IsPart-open_trailers limit so_far bytes n ends says none_ends few =
 -- a trailer section that passes its limit is too long
 pub IsPart-long_trailers : (limit so_far : ℕ) (bytes : List ℕ) (n : ℕ) → line_end bytes ≡ Some n
     → Says (take (suc n) bytes) (Some 0) → HasNoEnd (drop n bytes) (min (length (drop n bytes)) (1 + max_trailers))
-    → max_trailers < length (drop n bytes) → IsPart limit so_far bytes (lacking (too_long sections.Trailers max_trailers))
+    → max_trailers < length (drop n bytes)
+    → IsPart limit so_far bytes (lacking (too_long sections.Trailers max_trailers))
 IsPart-long_trailers limit so_far bytes n ends says none_ends long =
     IsPart-by limit so_far bytes (Some n) (Some 0) (lacking (too_long sections.Trailers max_trailers)) ends says
     (None, none_ends, rw (lt-leb (length (drop n bytes)) max_trailers long) refl)

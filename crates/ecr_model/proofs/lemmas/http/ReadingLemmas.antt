@@ -16,7 +16,8 @@ use Rattle.ecr_model.specs.http.Fronts.{bad, too_long, open_, BodyFront, complet
 use Rattle.ecr_model.specs.http.Chunks.{max_trailers, line_end, Says, Part, chunk, last_chunk, lacking, chunk_of, if_within, last_of, IsSaid, IsLined, SaysAt, IsPart, Progress, begun, past_chunk, Comes, Chunks, IsChunked}
 use Rattle.ecr_model.specs.http.Stream.{Front, whole, short, sized_front, IsBody, with_body, IsFramed, IsHeaded, ParsesTo, IsFront, blank_length, Point, start, past_blank, Meets, past_request, Begins, closed, Tail, ending_of, Lacks, StopsBy, Reads}
 use Rattle.ecr_model.specs.laws.StreamLaws.{BytesHaveAReading}
-use Rattle.ecr_model.proofs.lemmas.http.ChunkLemmas.{IsPart-chunk_positive, IsPart-chunk_length, Chunks-more}
+use Rattle.ecr_model.proofs.lemmas.http.ChunkLemmas.{IsPart-chunk_positive, IsPart-chunk_length}
+use Rattle.ecr_model.proofs.lemmas.http.ChunkedLemmas.{Chunks-more}
 use Rattle.ecr_model.proofs.lemmas.http.DecisionLemmas.{RequestHead_decided, Chunk_decided}
 use Rattle.ecr_model.proofs.lemmas.http.PartLemmas.{IsChunked-lacks, IsChunked-whole}
 use Rattle.ecr_model.proofs.lemmas.http.StreamLemmas.{Meets-length, Begins-more}
@@ -118,6 +119,7 @@ IsLined-some : (limit so_far : ℕ) (bytes : List ℕ) (end size : Option ℕ) �
 IsLined-some limit so_far bytes None size = (_, refl)
 IsLined-some limit so_far bytes (Some n) size = IsSaid-some limit so_far bytes n size
 
+-- some part stands at the front of any bytes
 pub IsPart-some : (limit so_far : ℕ) (bytes : List ℕ) → (part : Part) × IsPart limit so_far bytes part
 IsPart-some limit so_far bytes =
     let says : (size : Option ℕ) × SaysAt bytes (line_end bytes) size = SaysAt-some bytes (line_end bytes) in
@@ -172,6 +174,7 @@ IsHeaded-some at bytes None head =
 IsHeaded-some at bytes (Some n) None = (short false bad, refl)
 IsHeaded-some at bytes (Some n) (Some head) = IsFramed-some at bytes n head (framing_of head)
 
+-- some front stands in any bytes
 pub IsFront-some : (at : ℕ) (bytes : List ℕ) → (front : Front) × IsFront at bytes front
 IsFront-some at bytes =
     let ends : (end : Option ℕ) × EndsAt max_head bytes end = EndsAt-some max_head bytes in

@@ -71,6 +71,7 @@ point_by : (a b : ℕ) (x y : List ℕ) (c : Bool) → a ≡ b → x ≡ y
 point_by a b x y c places bytes =
     ap₂ (λ (k : ℕ) (l : List ℕ). point k l c) places bytes
 
+-- blank bytes that a byte follows are passed alike where more bytes come
 pub past_blank-grown : (p : Point) (others : List ℕ) → blank_length p.ahead < length p.ahead
     → past_blank (grown p others) ≡ grown (past_blank p) others
 past_blank-grown p others before =
@@ -82,6 +83,7 @@ past_blank-grown p others before =
     (ap (λ (k : ℕ). p.at + k) blanks)
     (ap (λ (k : ℕ). drop k (p.ahead ++ others)) blanks ∙ drop-append-le (blank_length p.ahead) p.ahead others all)
 
+-- a settled front that comes next stays where more bytes come
 pub Meets-append : (p : Point) (others : List ℕ) (front : Front) → is_settled front ≡ true → Meets p front
     → Meets (grown p others) front
 Meets-append p others front settled meets =
@@ -89,6 +91,7 @@ Meets-append p others front settled meets =
     (sym (past_blank-grown p others (Meets-some p front settled meets)))
     (IsFront-append (past_blank p).at (past_blank p).ahead others front settled meets)
 
+-- at most one front comes next
 pub Meets-unique : (p : Point) (f g : Front) → Meets p f → Meets p g → f ≡ g
 Meets-unique p f g a b = IsFront-unique (past_blank p).at (past_blank p).ahead f g a b
 
@@ -106,6 +109,7 @@ past_request-grown p others r n meets =
     ∙ ap (λ (l : List ℕ). point ((past_blank p).at + n) l (closes r))
     (drop-append-le n (past_blank p).ahead others (Meets-length p r n meets).1)
 
+-- the bytes used and those ahead are as many behind the blank bytes as before them
 pub past_blank-length : (p : Point) → (past_blank p).at + length (past_blank p).ahead ≡ p.at + length p.ahead
 past_blank-length p =
     let within : blank_length p.ahead ≤ length p.ahead = blank_length-le p.ahead in
@@ -159,6 +163,7 @@ StopsBy-unique : (shut over : Bool) (p : Point) (a b : Tail) → StopsBy shut ov
 StopsBy-unique true over p a b x y = x ∙ sym y
 StopsBy-unique false over p a b x y = Lacks-unique over p a b x y
 
+-- requests stop in one way at most
 pub Stops-unique : (over : Bool) (p : Point) (a b : Tail) → Stops over p a → Stops over p b → a ≡ b
 Stops-unique over p a b x y = StopsBy-unique p.closed over p a b x y
 

@@ -12,6 +12,7 @@ use Rattle.ecr_model.specs.names.Sites.{is_region_byte, is_digit, IsRegion, IsAc
 
 -- ---- the tests of the parts
 
+-- the test of a region passes exactly the regions
 pub is_region-IsRegion : (text : List ℕ) → IsTrue (is_region text) ↔ IsRegion text
 is_region-IsRegion text = (there, back)
   where
@@ -25,6 +26,7 @@ is_region-IsRegion text = (there, back)
     back h = and_from _ _ (and_from _ _ (le-leb 1 (length text) h.at_least)
         (le-leb (length text) 32 h.at_most)) h.plain
 
+-- the test of an account passes exactly the accounts
 pub is_account-IsAccount : (text : List ℕ) → IsTrue (is_account text) ↔ IsAccount text
 is_account-IsAccount text = (there, back)
   where
@@ -55,7 +57,8 @@ slash-site region account h =
     omega (arith, length-append region (47 ∷ account)) in
     ap (λ n. get_or (region ++ (47 ∷ account)) n 0) e ∙ get_or-append_seam region 47 account 0
 
-account_digits-site : (region account : List ℕ) → length account ≡ 12 → account_digits (region ++ (47 ∷ account)) ≡ account
+account_digits-site : (region account : List ℕ) → length account ≡ 12
+    → account_digits (region ++ (47 ∷ account)) ≡ account
 account_digits-site region account h =
     let e : length (region ++ (47 ∷ account)) - 12 ≡ length (region ++ 47 ∷ []) =
     omega (arith, length-append region (47 ∷ account), length-append region (47 ∷ [])) in

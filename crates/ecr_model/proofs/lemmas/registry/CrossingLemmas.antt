@@ -19,9 +19,11 @@ use Rattle.ecr_model.specs.contracts.requests.reply.Reply as Reply
 use Rattle.ecr_model.specs.contracts.requests.reply.SiteReply as SiteReply
 use Rattle.ecr_model.specs.contracts.values.shared.SharedText as SharedText
 
+-- shared texts may cross threads
 pub SharedText-send : IsSend SharedText.the_row
 SharedText-send = search (sendable, crosses) depth 60 fits 20000
 
+-- digests may cross threads
 pub Digest-send : IsSend Digest.the_row
 Digest-send = search (sendable, crosses) depth 60 fits 20000
 
@@ -33,21 +35,27 @@ Name-send = search (SharedText-send, sendable, crosses) depth 60 fits 20000
 pub SiteId-send : IsSend SiteId.the_row
 SiteId-send = search (SharedText-send, sendable, crosses) depth 60 fits 20000
 
+-- keys of repositories may cross threads
 pub RepoKey-send : IsSend RepoKey.the_row
 RepoKey-send = search (sendable, crosses) depth 60 fits 20000
 
+-- keys of cells may cross threads
 pub CellKey-send : IsSend CellKey.the_row
 CellKey-send = search (sendable, crosses) depth 60 fits 20000
 
+-- limits may cross threads
 pub Limits-send : IsSend Limits.the_row
 Limits-send = search (sendable, crosses) depth 60 fits 20000
 
+-- calls on a repository may cross threads
 pub Call-send : IsSend Call.the_row
 Call-send = search (sendable, crosses) depth 60 fits 20000
 
+-- what changed a cell may cross threads
 pub Act-send : IsSend Act.the_row
 Act-send = search (Digest-send, SiteId-send, sendable, crosses) depth 60 fits 20000
 
+-- entries of journals may cross threads
 pub Entry-send : IsSend Entry.the_row
 Entry-send = search (sendable, crosses) depth 60 fits 20000
 
@@ -63,9 +71,11 @@ Place-send = search (sendable, crosses) depth 60 fits 20000
 pub Registered-send : IsSend Registered.the_row
 Registered-send = search (sendable, crosses) depth 60 fits 20000
 
+-- refusals may cross threads
 pub Refusal-send : IsSend Refusal.the_row
 Refusal-send = search (Digest-send, sendable, crosses) depth 60 fits 20000
 
+-- descriptions of a repository may cross threads
 pub Described-send : IsSend Described.the_row
 Described-send = search (sendable, crosses) depth 60 fits 20000
 
@@ -77,4 +87,22 @@ Reply-send = search (Described-send, sendable, crosses) depth 60 fits 20000
 pub SiteReply-send : IsSend SiteReply.the_row
 SiteReply-send = search (Name-send, sendable, crosses) depth 60 fits 20000
 
-pub ruleset crossing = (SharedText-send, Digest-send, Name-send, SiteId-send, RepoKey-send, CellKey-send, Limits-send, Call-send, Act-send, Entry-send, Line-send, Place-send, Registered-send, Refusal-send, Described-send, Reply-send, SiteReply-send)
+pub ruleset crossing = (
+  SharedText-send,
+  Digest-send,
+  Name-send,
+  SiteId-send,
+  RepoKey-send,
+  CellKey-send,
+  Limits-send,
+  Call-send,
+  Act-send,
+  Entry-send,
+  Line-send,
+  Place-send,
+  Registered-send,
+  Refusal-send,
+  Described-send,
+  Reply-send,
+  SiteReply-send,
+)

@@ -113,6 +113,7 @@ below-none (l ∷ ls) ticket late =
     let first : ticket ≤ l.ticket = All-head (λ m. ticket ≤ m.ticket) l ls late in
     grind (arith, rest, first)
 
+-- lines with later tickets add nothing to those below a ticket
 pub below-append : (lines news : List Line) (ticket : ℕ) → All (λ l. ticket ≤ l.ticket) news
     → below ticket (lines ++ news) ≡ below ticket lines
 below-append lines news ticket late =

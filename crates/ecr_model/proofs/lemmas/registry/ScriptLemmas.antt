@@ -29,6 +29,7 @@ unfolding entered
 entered-none realm world cell None none = refl
 entered-none realm world cell (Some e) none = absurd (omega (arith, none))
 
+-- a script without entries leaves the journals as they were
 pub run-none : {A : Type 0} (realm : Realm) (world : World) (script : Script A)
     → (run realm world script).entries ≤ 0 → (run realm world script).world ≡ world
 unfolding run
@@ -65,7 +66,8 @@ run_to-first (suc n) realm world (ends a) next within = absurd (omega (arith, wi
 run_to-first zero realm world (turn cell ask told) next within = refl
 run_to-first (suc n) realm world (turn cell ask told) next within =
     let turned : Turned = next_turn realm world cell ask in
-    run_to-first (suc n - entry_count turned.entry) realm (entered realm world cell turned.entry) (told turned.told) next
+    run_to-first (suc n - entry_count turned.entry) realm (entered realm world cell turned.entry)
+    (told turned.told) next
     (omega (arith, within))
 
 -- up to the entries of its first turn and others, a script goes on behind that turn

@@ -61,7 +61,8 @@ sound-registers realm lines caller ticket frame name d (Full limit count) sound 
 -- a call keeps a repository's journal sound
 sound-replies : (key : _) (limits : _) (lines : List Line) (caller ticket : ℕ) (t : steps.Turn) (c : _)
     (s : stored.Repository) (o : Option stored.Repository)
-    → steps.IsSoundRepository key limits lines → past lines ≤ ticket → t.ticket ≡ ticket → s ≡ steps.replayed_repository key limits lines
+    → steps.IsSoundRepository key limits lines → past lines ≤ ticket → t.ticket ≡ ticket
+    → s ≡ steps.replayed_repository key limits lines
     → o ≡ (steps.step key limits s t c).after
     → steps.IsSoundRepository key limits (lines_after caller ticket lines (option_map (λ x. steps.entry_of t c) o))
 unfolding steps.after_line
@@ -69,7 +70,8 @@ sound-replies key limits lines caller ticket t c s None sound later at now is = 
 sound-replies key limits lines caller ticket t c s (Some next) sound later at now is =
     a_sound_journal_grows (steps.after_line key limits) steps.first_state lines
     (record { ticket = ticket; caller = caller; entry = steps.entry_of t c }) next sound later
-    (ap (λ n. (steps.step key limits (steps.replayed_repository key limits lines) (record t { ticket = n }) c).after) (sym at)
+    (ap (λ n. (steps.step key limits (steps.replayed_repository key limits lines) (record t { ticket = n }) c).after)
+    (sym at)
     ∙ ap (λ x. (steps.step key limits x t c).after) (sym now) ∙ sym is)
 
 -- a turn past all tickets keeps its cell's journal sound
@@ -83,7 +85,8 @@ sound-turn realm (Directory site) lines caller ticket sealed (register name) sou
     sound-registers realm lines caller ticket (frame_of realm site) name
     (directories.directory_at (frame_of realm site) lines ticket)
     (registration (frame_of realm site) (directories.directory_at (frame_of realm site) lines ticket) name) sound later
-    (the_last_is_now (directories.directory_after_line (frame_of realm site)) first_directory lines ticket sound later) refl
+    (the_last_is_now (directories.directory_after_line (frame_of realm site)) first_directory lines ticket sound later)
+    refl
 sound-turn realm (Directory site) lines caller ticket sealed (site_call (site_calls.Names page)) sound later = sound
 sound-turn realm (Directory site) lines caller ticket sealed (call beside c) sound later = sound
 sound-turn realm (Repository key) lines caller ticket sealed (knows name) sound later = sound
@@ -123,6 +126,7 @@ sound-entered realm world cell ask sound other =
     (sound-turn realm cell (world.journals cell) 0 (next_ticket world cell) _ ask (sound cell) (omega arith))
     (sound other)
 
+-- a script that is run keeps all journals sound
 pub sound-run : {A : Type 0} (realm : Realm) (world : World) (script : Script A) → AreSound realm world.journals
     → AreSound realm (run realm world script).world.journals
 unfolding run
@@ -132,6 +136,7 @@ sound-run realm world (turn cell ask next) sound =
     sound-run realm (entered realm world cell turned.entry) (next turned.told)
     (sound-entered realm world cell ask sound)
 
+-- the first entries of a script keep all journals sound
 pub sound-run_to : {A : Type 0} (n : ℕ) (realm : Realm) (world : World) (script : Script A)
     → AreSound realm world.journals
     → AreSound realm (run_to n realm world script).journals
@@ -170,6 +175,7 @@ later-entered realm world cell entry other =
 later-trans : (one two three : Journals) → AreLater one two → AreLater two three → AreLater one three
 later-trans one two three p q cell = omega (arith, p cell, q cell)
 
+-- no journal goes back while a script is run
 pub later-run : {A : Type 0} (realm : Realm) (world : World) (script : Script A)
     → AreLater world.journals (run realm world script).world.journals
 unfolding run
@@ -183,6 +189,7 @@ later-run realm world (turn at ask next) cell =
           (entered realm world at turned.entry) (next turned.told) cell,
     )
 
+-- no journal goes back by the first entries of a script
 pub later-run_to : {A : Type 0} (n : ℕ) (realm : Realm) (world : World) (script : Script A)
     → AreLater world.journals (run_to n realm world script).journals
 unfolding run_to
@@ -341,6 +348,7 @@ above-cell realm (Directory site) lines ticket sound past =
 above-cell realm (Repository key) lines ticket sound past =
     above-from (steps.after_line key realm.limits) 0 steps.first_state lines ticket sound past
 
+-- places past all entries of sound journals are fresh
 pub fresh-late : (realm : Realm) (journals : Journals) (ps : List Place) → AreSound realm journals
     → AreLate journals ps → AreFresh journals ps
 fresh-late realm journals [] sound late = tt
@@ -386,7 +394,8 @@ reached-served was now e v =
     subst (λ (w : World). AreReached w.journals e.places) (sym v.leaves)
     (cond_both e.cut.failed (run_to e.cut.entries was.realm was.world script) (run was.realm was.world script).world
     (λ (w : World). AreReached w.journals e.places)
-    (λ failed. reached-run_to e.cut.entries was.realm was.world script e.places v.placed.first.0 v.placed.first.1 v.placed.changed)
+    (λ failed. reached-run_to e.cut.entries was.realm was.world script e.places v.placed.first.0 v.placed.first.1
+    v.placed.changed)
     (λ served. subst (λ ps. AreReached (run was.realm was.world script).world.journals ps) (sym (v.placed.all served))
     (reached-run was.realm was.world script)))
 

@@ -31,6 +31,7 @@ whole-chosen : (here : Bool) (one other : List Line)
 whole-chosen true one other = refl
 whole-chosen false one other = refl
 
+-- the views of whole journals after an entry are those before it with the whole journal of its cell
 pub views_of-entered : (realm : Realm) (world : World) (cell : CellKey) (entry : Option Entry)
     → with_view (views_of world.journals) cell (whole (lines_next world cell entry)) ≡ views_of
     (entered realm world cell entry).journals
@@ -44,12 +45,12 @@ views_of-entered realm world cell (Some entry) =
 
 -- ---- one turn
 
-lines_after-is : (caller ticket : ℕ) (lines : List Line) (entry : Option Entry)
+pub lines_after-is : (caller ticket : ℕ) (lines : List Line) (entry : Option Entry)
     → lines_after caller ticket lines entry ≡ lines ++ lines_of caller ticket entry
 lines_after-is caller ticket lines None = sym (append-nil lines)
 lines_after-is caller ticket lines (Some entry) = refl
 
-late-own : (caller ticket : ℕ) (entry : Option Entry) → Each (λ l. ticket ≤ l.ticket) (lines_of caller ticket entry)
+pub late-own : (caller ticket : ℕ) (entry : Option Entry) → Each (λ l. ticket ≤ l.ticket) (lines_of caller ticket entry)
 late-own caller ticket None = tt
 late-own caller ticket (Some entry) = (omega arith, tt)
 
@@ -69,7 +70,7 @@ unfolding IsSoundFrom
 Rises-sound after low s [] sound = omega arith
 Rises-sound after low s (l ∷ ls) sound = (sound.0, Rises-sound after (suc l.ticket) sound.1.0 ls sound.1.2)
 
-Rises-cell : (realm : Realm) (cell : CellKey) (lines : List Line) → IsSoundIn realm cell lines
+pub Rises-cell : (realm : Realm) (cell : CellKey) (lines : List Line) → IsSoundIn realm cell lines
     → Rises 0 lines (past lines)
 Rises-cell realm (Directory site) lines sound =
     Rises-sound (directories.directory_after_line (frame_of realm site)) 0 directories.first_directory lines sound
@@ -154,7 +155,8 @@ visit-is_next realm world cell ask view made visit =
     ∙ ap (λ n. turn_at realm cell lines n made.sealed ask) at
     ∙ ap (λ d. turn_at realm cell lines ticket d ask) visit.sealed_is in
     let journal : view.seen ≡ lines_next world cell turned.entry =
-    journal-next lines visit.comes.others view.seen view.caller made.place.ticket ticket seen.entry turned.entry visit.comes.longer alone.no_others caller at
+    journal-next lines visit.comes.others view.seen view.caller made.place.ticket ticket seen.entry turned.entry
+    visit.comes.longer alone.no_others caller at
     (ap (λ (t : Turned). t.entry) same) in
     record {
       result = same;

@@ -30,6 +30,7 @@ KeepsCaller-trans (Some a) None three p q = absurd p
 KeepsCaller-trans (Some a) (Some b) None p q = absurd q
 KeepsCaller-trans (Some a) (Some b) (Some c) p q = q ∙ p
 
+-- a view goes on from itself
 pub IsAhead-refl : (view : Option View) → IsAhead view view
 IsAhead-refl view = record {
   follows = record { news = []; longer = sym (append-nil (seen_of view)); later = tt };
@@ -37,6 +38,7 @@ IsAhead-refl view = record {
   onward = omega arith;
 }
 
+-- a view goes on from what the view before it goes on from
 pub IsAhead-trans : (one two three : Option View) → IsAhead one two → IsAhead two three → IsAhead one three
 IsAhead-trans one two three p q = record {
   follows = record {
@@ -85,6 +87,7 @@ pub with_view-same : (views : Views) (cell : CellKey) (view : View) → with_vie
 unfolding with_view
 with_view-same views cell view = cond-true (same_cell cell cell) (Some view) (views cell) (same_cell-self cell)
 
+-- views in which one cell goes on from before go on from before
 pub AreAhead-with_view : (was : Views) (cell : CellKey) (view : View) → IsAhead (was cell) (Some view)
     → AreAhead was (with_view was cell view)
 unfolding with_view
@@ -165,7 +168,7 @@ what_was_seen_stays realm cell ticket sealed ask was now ahead within =
     (λ l late. omega (arith, late, within)) f.news f.later)
 
 -- a turn that was made has its result over each journal that is seen later
-result_of-later : (terms : Terms) (was later : Views) (cell : CellKey) (view : View) (ask : Ask) (made : PlacedTurn)
+pub result_of-later : (terms : Terms) (was later : Views) (cell : CellKey) (view : View) (ask : Ask) (made : PlacedTurn)
     → Visit terms (was cell) view cell ask made → AreAhead (with_view was cell view) later
     → result_of terms.realm cell (seen_of (later cell)) ask made ≡ result_of terms.realm cell view.seen ask made
 result_of-later terms was later cell view ask made visit ahead =
@@ -217,7 +220,7 @@ by-was : (was : Option View) (caller : ℕ) → KeepsCaller was (Some (record { 
 by-was None caller same = refl
 by-was (Some view) caller same = ap (λ n. by n view.seen) same
 
-own_of-comes : (was : Option View) (now : View) (own : List Line) → ExtendsView was now own → by now.caller own ≡ own
+pub own_of-comes : (was : Option View) (now : View) (own : List Line) → ExtendsView was now own → by now.caller own ≡ own
     → own_of (Some now) ≡ own_of was ++ own
 own_of-comes was now own comes is =
     let none : by now.caller comes.others ≡ [] = by-foreign now.caller comes.others comes.foreign in
@@ -236,7 +239,7 @@ own_of-comes was now own comes is =
     same_caller (Some view) now same = same
 
 -- the later number is the one of the turn
-caller_of-later : (view : View) (later : Option View) → KeepsCaller (Some view) later → caller_of later ≡ view.caller
+pub caller_of-later : (view : View) (later : Option View) → KeepsCaller (Some view) later → caller_of later ≡ view.caller
 caller_of-later view None same = absurd same
 caller_of-later view (Some now) same = same
 
@@ -247,7 +250,7 @@ own_of-chosen : (here : Bool) (was : Option View) (view : View) (own : List Line
 own_of-chosen true was view own there = there refl
 own_of-chosen false was view own there = sym (append-nil (own_of was))
 
-own_of-visit : (terms : Terms) (was later : Views) (at cell : CellKey) (view : View) (ask : Ask) (made : PlacedTurn)
+pub own_of-visit : (terms : Terms) (was later : Views) (at cell : CellKey) (view : View) (ask : Ask) (made : PlacedTurn)
     → Visit terms (was at) view at ask made → AreAhead (with_view was at view) later
     → own_of (with_view was at view cell)
     ≡ own_of (was cell) ++ (if same_cell at cell

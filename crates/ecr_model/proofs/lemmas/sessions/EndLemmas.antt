@@ -87,6 +87,7 @@ Reads-over bytes over rs tail reads needs = stops_over reads.point.closed over r
 
 -- ---- what was read is the front of the input
 
+-- where the input is known, what was read is its front, and the rest is left
 pub Consumes-front : (before after : Option (List ℕ)) (input read : List ℕ) → before ≡ Some input
     → Consumes before after read
     → (rest : List ℕ) × (after ≡ Some rest) × (input ≡ read ++ rest)

@@ -2,10 +2,17 @@
 use Rattle.std.proofs.Common.{◌≡◌, ℕ, Bool, true, false, if◌then◌else◌, List, [], ◌∷◌, ◌++◌, map, Option, None, Some, refl, sym, ap, ◌∙◌, subst, append_assoc, append-nil}
 use Rattle.std.specs.Io.KnownBytes.{Appends}
 use Rattle.std.proofs.KnownBytes.{Appends-nil, Appends-trans}
+use Rattle.std.proofs.lemmas.Bool.{cond-true, cond-false}
+use Rattle.ecr_model.specs.declared.http.Request.{Request}
+use Rattle.ecr_model.specs.declared.outcome.Cut.{Cut}
 use Rattle.ecr_model.specs.registry.Content.{content_digest}
+use Rattle.ecr_model.specs.registry.Contents.{named_by}
+use Rattle.ecr_model.specs.http.Replies.{failed_reply, is_head}
+use Rattle.ecr_model.specs.http.Stream.{closes}
+use Rattle.ecr_model.specs.requests.Posed.{posed_of, posed_bytes}
 use Rattle.ecr_model.specs.http.Replies.{interim}
-use Rattle.ecr_model.specs.registry.Scripts.{Realm, World}
-use Rattle.ecr_model.specs.sessions.Sessions.{Exchange, Standing, Chain, AreServed, IsTime, is_waiting, written, left_by, answer_to, sent_to, requests_of}
+use Rattle.ecr_model.specs.registry.Scripts.{Realm, World, run_to}
+use Rattle.ecr_model.specs.sessions.Sessions.{Exchange, Standing, Chain, AreServed, IsTime, is_waiting, written, left_by, named_to, outcome_of, script_of, answer_to, sent_to, requests_of}
 use Rattle.ecr_model.specs.laws.SessionLaws.{TheClockTellsTheMoments, AFixedMomentIsEach}
 
 -- ---- one more exchange
@@ -87,12 +94,12 @@ written-same realm other world another d e r w m c q s =
     ∙ ap (λ x. written other another e.moment e.cut e.request x) s
 
 -- a list under a map that is empty is empty
-map-none : {A B : Type 0} (f : A → B) (xs : List A) → map f xs ≡ [] → xs ≡ []
+pub map-none : {A B : Type 0} (f : A → B) (xs : List A) → map f xs ≡ [] → xs ≡ []
 map-none f [] none = refl
 map-none f (x ∷ xs) none = absurd (cc)
 
 -- no reply carries content yet
-carries_none : (failed : Bool) (contents : List (List ℕ)) → map content_digest contents ≡ (if failed then [] else [])
+pub carries_none : (failed : Bool) (contents : List (List ℕ)) → map content_digest contents ≡ (if failed then [] else [])
     → contents ≡ []
 carries_none true contents is = map-none content_digest contents is
 carries_none false contents is = map-none content_digest contents is
@@ -108,7 +115,7 @@ left_by-same realm other world another d e r w m c q =
     ∙ ap (λ x. left_by other another e.moment e.cut x) q
 
 -- two items that are equal one after another
-heads_same : {A : Type 0} (x y : A) (xs ys : List A) → (x ∷ xs) ≡ (y ∷ ys) → (x ≡ y) × (xs ≡ ys)
+pub heads_same : {A : Type 0} (x y : A) (xs ys : List A) → (x ∷ xs) ≡ (y ∷ ys) → (x ≡ y) × (xs ≡ ys)
 heads_same x y xs ys is = (cc, cc)
 
 -- the same requests at the same moments with the same cuts are answered alike and leave the same journals
@@ -138,3 +145,42 @@ AreServed-same s t last other (e ∷ es) (f ∷ fs) realm world one two q m c =
     let answer : answer_to e ≡ answer_to f =
     ap (λ r. interim (is_waiting r) ++ e.bytes) qs.0 ∙ ap (λ b. interim (is_waiting f.request) ++ b) bytes in
     (ap (λ a. a ++ sent_to es) answer ∙ ap (λ l. answer_to f ++ l) rest.0, rest.1)
+
+-- ---- a request that was served, and one that failed
+
+-- all turns of a request that was served are in its reply
+pub written-served : (realm : Realm) (world : World) (moment : ℕ) (cut : Cut) (request : Request)
+    (contents : List (List ℕ)) → cut.failed ≡ false
+    → written realm world moment cut request contents ≡ posed_bytes (posed_of realm.served request) (closes request)
+    (outcome_of realm world moment request).answer.reply contents
+unfolding written
+written-served realm world moment cut request contents served = cond-false cut.failed _ _ served
+
+-- its reply names its content
+pub named_to-served : (realm : Realm) (world : World) (moment : ℕ) (cut : Cut) (request : Request) → cut.failed ≡ false
+    → named_to realm world moment cut request ≡ named_by (outcome_of realm world moment request).answer.reply
+named_to-served realm world moment cut request served = cond-false cut.failed _ _ served
+
+-- it leaves what all its turns do
+pub left_by-served : (realm : Realm) (world : World) (moment : ℕ) (cut : Cut) (request : Request) → cut.failed ≡ false
+    → left_by realm world moment cut request ≡ (outcome_of realm world moment request).world
+unfolding left_by
+left_by-served realm world moment cut request served = cond-false cut.failed _ _ served
+
+-- a request that failed is answered by the fixed reply
+pub written-failed : (realm : Realm) (world : World) (moment : ℕ) (cut : Cut) (request : Request)
+    (contents : List (List ℕ)) → cut.failed ≡ true
+    → written realm world moment cut request contents ≡ failed_reply (is_head request) (closes request)
+unfolding written
+written-failed realm world moment cut request contents failed = cond-true cut.failed _ _ failed
+
+-- it names no content
+pub named_to-failed : (realm : Realm) (world : World) (moment : ℕ) (cut : Cut) (request : Request) → cut.failed ≡ true
+    → named_to realm world moment cut request ≡ []
+named_to-failed realm world moment cut request failed = cond-true cut.failed _ _ failed
+
+-- it leaves what its turns up to its entries do
+pub left_by-failed : (realm : Realm) (world : World) (moment : ℕ) (cut : Cut) (request : Request) → cut.failed ≡ true
+    → left_by realm world moment cut request ≡ run_to cut.entries realm world (script_of realm moment request)
+unfolding left_by
+left_by-failed realm world moment cut request failed = cond-true cut.failed _ _ failed

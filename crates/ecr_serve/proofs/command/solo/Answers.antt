@@ -26,7 +26,8 @@ returns-in-Ok-None-clause-usage g c = λ other.
       read_faults = faults;
       write_faults = g.K.Sink.faults c.say_usage.new.sink;
     } in
-    SaysUsage-same_end before after c.with_status-in-Ok-None.result.end c.say_usage.result c.with_status-in-Ok-None.ensures.end (c.say_usage.ensures left told faults)
+    SaysUsage-same_end before after c.with_status-in-Ok-None.result.end c.say_usage.result
+    c.with_status-in-Ok-None.ensures.end (c.say_usage.ensures left told faults)
 
 pub returns-in-Ok-Some-clause-session : goal.returns-in-Ok-Some-clause-session
 returns-in-Ok-Some-clause-session g c = λ fixed sites words.

@@ -4,10 +4,12 @@ use Rattle.ecr_serve.proofs.WordsLemmas.{no_moment-Err, no_moment-above, no_mome
 use Rattle.ecr_serve.proofs.words.read_moment.Goals as goal
 
 pub returns-in_default : goal.returns-in_default
-returns-in_default c = no_moment-Err c.args.word.now c.parse.result c.in_default.field-0 c.parse.ensures.value.0 c.in_default.is
+returns-in_default c = no_moment-Err c.args.word.now c.parse.result c.in_default.field-0 c.parse.ensures.value.0
+    c.in_default.is
 
 pub returns-then-moment-gt-MAX_MOMENT : goal.returns-then-moment-gt-MAX_MOMENT
-returns-then-moment-gt-MAX_MOMENT c = no_moment-above c.args.word.now c.parse.result c.in-Ok.moment c.parse.ensures.value.0 c.in-Ok.is c.if-moment-gt-MAX_MOMENT.true
+returns-then-moment-gt-MAX_MOMENT c = no_moment-above c.args.word.now c.parse.result c.in-Ok.moment
+    c.parse.ensures.value.0 c.in-Ok.is c.if-moment-gt-MAX_MOMENT.true
 
 pub returns : goal.returns
 returns c =

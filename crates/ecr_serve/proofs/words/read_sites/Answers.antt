@@ -16,6 +16,7 @@ loop-i-preserved c =
     let words = c.args.words.now in
     let earlier = map string_bytes (take c.loop-i.i words) in
     rw c.in_ok-push.ensures.items
-    (AreSites-more string_bytes words c.loop-i.i c.index-words-i.result c.loop-i.sites.items c.in-Some.site c.loop-i-test.true c.index-words-i.is c.loop-i.invariant
+    (AreSites-more string_bytes words c.loop-i.i c.index-words-i.result c.loop-i.sites.items c.in-Some.site
+    c.loop-i-test.true c.index-words-i.is c.loop-i.invariant
     (subst (λ (word : List ℕ). IsNew earlier word c.in-Some.site) c.as_str.ensures.value
     (rw c.in-Some.is at c.in_ok-site.ensures)))

@@ -38,7 +38,9 @@ returns-in_err-reply-in-Many-clause-stopped g c =
 
 pub returns-in_ok-reply-in-Many-clause-ran : goal.returns-in_ok-reply-in-Many-clause-ran
 returns-in_ok-reply-in-Many-clause-ran g c =
-    RanWith-many _ _ _ c.in-Many.site c.in-Many.names c.in-Many.page _ _ _ _ _ (ap meaning c.in-Many.is) (Decided-plain _ _ _ c.decided-in-Many.ensures.reply c.decided-in-Many.ensures.sealed) c.in_ok-reply-in-Many.ensures.ran
+    RanWith-many _ _ _ c.in-Many.site c.in-Many.names c.in-Many.page _ _ _ _ _ (ap meaning c.in-Many.is)
+    (Decided-plain _ _ _ c.decided-in-Many.ensures.reply c.decided-in-Many.ensures.sealed)
+    c.in_ok-reply-in-Many.ensures.ran
 
 pub returns-in_err-call-in-Cell-clause-stopped : goal.returns-in_err-call-in-Cell-clause-stopped
 returns-in_err-call-in-Cell-clause-stopped g c = OnErr-always _ _ (StoppedWith-nothing _ _ _ _ refl)

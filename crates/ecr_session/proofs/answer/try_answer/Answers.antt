@@ -36,7 +36,8 @@ returns-in-Ok-clause-replied g c =
     let reads = subst (λ (s : List SiteId). reading (target_of request) request.body (base_of s request) s ≡ asks
     (meaning c.in-Ok.asked)) c.served.ensures.sites c.in-Ok.ensures.exact in
     let posed = posed_of-api served request _ (sym c.is_json_call.ensures ∙ c.if-not-is_json_call.false) reads in
-    IfOk-weaker c.answer_asked.result _ _ (λ r e. IsReplied-same _ _ _ _ _ _ _ r.reply r.sealed _ _ posed c.closes-in-Ok.ensures.closes e) c.answer_asked.ensures.replied
+    IfOk-weaker c.answer_asked.result _ _ (λ r e. IsReplied-same _ _ _ _ _ _ _ r.reply r.sealed _ _ posed
+    c.closes-in-Ok.ensures.closes e) c.answer_asked.ensures.replied
 
 pub returns-in-Ok-clause-stopped : goal.returns-in-Ok-clause-stopped
 returns-in-Ok-clause-stopped g c =

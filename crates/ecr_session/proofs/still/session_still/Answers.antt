@@ -13,8 +13,8 @@ use Rattle.ecr_session.proofs.still.session_still.Goals as goal
 pub returns-in-Err-clause-serves : goal.returns-in-Err-clause-serves
 returns-in-Err-clause-serves g c =
     Serves-nothing IsServed _ _ _ _
-    (Account-nil _ _ _ c.new-in-Err.ensures.items
-    (ap (map (λ v. v.items)) c.new-in-Err-2.ensures.items) c.new-in-Err-3.ensures.items) refl
+    (Account-nil _ _ _ c.unbegun.ensures.moments (ap (map (λ v. v.items)) c.unbegun.ensures.places)
+    c.unbegun.ensures.cuts) c.unbegun.ensures.end
 
 pub returns-in-Ok-clause-serves : goal.returns-in-Ok-clause-serves
 returns-in-Ok-clause-serves g c =
@@ -59,6 +59,6 @@ returns-in-Ok-clause-fresh g c =
     (sym c.ended.ensures.account)
     (Serves-fresh (still_setting set) _ _ (account_in c.run-end.new.self)
     (still_of last).world c.run-end.result
-    (c.served-sites.ensures.sound (ap (λ (s : DeskState). s.alone) still))
+    (c.served-sites.ensures.sound (ap (λ (s : DeskState). s.gates) still))
     (Serves-still set _ _ (account_in c.run-end.new.self) last c.run-end.result
     (record { realm_is = refl; still = still }) c.run-end.ensures.serves.serves))

@@ -7,7 +7,14 @@ use Rattle.ecr_turn.proofs.Moves.{may_join, may_take_in}
 use Rattle.ecr_turn.proofs.steps.absorb.Goals as goal
 
 pub join_seat-requires : goal.join_seat-requires
-join_seat-requires g c = (search rules, search rules, search rules, search rules, may_join _ _ _ _ _ _ _ c.requires.one.1.0 c.requires.two.1.0)
+join_seat-requires g c = (
+  search rules,
+  search rules,
+  search rules,
+  search rules,
+  may_join _ _ _ _ _ _ _ c.requires.one.1.0
+      c.requires.two.1.0,
+)
 
 pub load-requires : goal.load-requires
 load-requires g c = (

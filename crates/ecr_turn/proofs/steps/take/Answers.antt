@@ -28,7 +28,8 @@ returns-clause-taken g c =
     c.load.ensures.2 t log (ap (λ m. m.0.stage) here) in
     let same = ap (in_hand f.state)
     (sym (x.2 ∙ ap (λ r. (0, r) ∷ rest c.wait.new.seat.me.1) c.unwrap-state.ensures) ∙ ap (λ m. m.1) f.me) in
-    subst (TakesState (λ b. g.S.Journal.lines b.value) (λ b. g.S.Journal.frame b.value) c.args.seat.now c.load.new.seat t)
+    subst (TakesState (λ b. g.S.Journal.lines b.value) (λ b. g.S.Journal.frame b.value) c.args.seat.now
+    c.load.new.seat t)
     (sym same) record {
       me = told.0 ∙ ap (λ m. (holding t log m.0, m.1)) here;
       framed = f.framed;

@@ -47,6 +47,8 @@ returns-clause-ran c =
     } in
     subst (λ (d : Desk). MadeTurn (state_of d) (state_of after) c.args.cell
     (ask_of c.args.deed) told place) c.self.view_is
-    (Ran-took (still_state_of before) (still_state_of after) c.args.cell (ask_of c.args.deed) told place c.self.invariant.sound
-    (Took-turns s.served s.limits s.cells.entries c.make.new.cells.entries s.made c.counted-self-inside.result c.args.cell (ask_of c.args.deed) told place
+    (Ran-took (still_state_of before) (still_state_of after) c.args.cell (ask_of c.args.deed) told place
+    c.self.invariant.sound
+    (Took-turns s.served s.limits s.cells.entries c.make.new.cells.entries s.made c.counted-self-inside.result
+    c.args.cell (ask_of c.args.deed) told place
     c.self.invariant c.in_ok-done.ensures.turned c.counted-self-inside.ensures))

@@ -1,13 +1,13 @@
-use Rattle.std.proofs.Common.{◌≡◌, ◌∷◌, ℕ, List, [], refl, sym, ap, ◌∙◌, subst}
+use Rattle.std.proofs.Common.{◌∷◌, ℕ, List, [], refl, sym, ap, subst}
 use Rattle.ecr_blob_upload.specs.Loads.{given}
-use Rattle.ecr_model.specs.declared.registry.journal.Place.{Place}
 use Rattle.ecr_model.specs.declared.requests.reply.Reply.{Reply}
 use Rattle.ecr_model.specs.registry.Contents.{AreContents}
-use Rattle.ecr_model.specs.requests.Requests.{Decided, plain, call_script}
-use Rattle.ecr_desk.specs.Desks.{Ran, seen_by}
-use Rattle.ecr_desk.proofs.DeskLemmas.{Ran-call, Stopped-call, StoppedWithin-none}
+use Rattle.ecr_model.specs.requests.Requests.{call_script}
+use Rattle.ecr_desk.specs.Desks.{seen_by}
+use Rattle.ecr_desk.proofs.DeskLemmas.{Stopped-call, StoppedWithin-none}
 use Rattle.ecr_cells.specs.Deeds.{told_of}
 use Rattle.ecr_cells.specs.Desks.{state_of, places_made}
+use Rattle.ecr_cells.proofs.RunLemmas.{Ran-answered}
 use Rattle.ecr_cells.proofs.WorldLemmas.{on_err_any}
 use Rattle.ecr_cells.proofs.desk.SoloDeskAnyDesk.call.Goals as goal
 
@@ -34,25 +34,9 @@ returns-in_err-outcome-clause-stopped c =
 
 pub returns-clause-ran : goal.returns-clause-ran
 returns-clause-ran c =
-    let before = state_of c.args.self.now in
-    let mid = state_of c.first_turn.new.self in
-    let after = state_of c.then_cell.new.self in
-    let key = c.args.key.now in
-    let content = given c.args.load in
-    let script = call_script key c.args.call content c.args.moment in
-    let reply = c.in_ok-outcome.outcome.reply in
-    let second = places_made c.in_ok-outcome.second in
-    let answer = c.answer_of.result in
-    let told : Decided = record { reply = answer.reply; sealed = answer.sealed } in
-    let decided : told ≡ plain reply =
-    ap {B = Decided} (λ r. record { reply = r; sealed = answer.sealed }) c.answer_of.ensures.reply
-    ∙ ap {B = Decided} (λ d. record { reply = reply; sealed = d }) c.answer_of.ensures.sealed in
-    let ran : Ran before after script (plain reply) (c.in_ok-told.first ∷ second) =
-    Ran-call before mid after key c.args.call content c.args.moment (told_of c.in_ok-told.told) (plain reply)
-    (c.in_ok-told.first ∷ []) second
-    c.in_ok-told.ensures.ran c.in_ok-outcome.ensures.ran in
-    subst (λ (ps : List Place). Ran before after script told ps) (sym c.answer_of.ensures.places)
-    (subst (λ (d : Decided). Ran before after script d (c.in_ok-told.first ∷ second)) (sym decided) ran)
+    Ran-answered _ (state_of c.first_turn.new.self) _ _ _ _ _ (told_of c.in_ok-told.told) c.in_ok-told.first
+    (places_made c.in_ok-outcome.second) _ c.in_ok-outcome.outcome.reply _ _ c.answer_of.ensures.reply
+    c.answer_of.ensures.sealed c.answer_of.ensures.places c.in_ok-told.ensures.ran c.in_ok-outcome.ensures.ran
 
 pub returns-clause-contents : goal.returns-clause-contents
 returns-clause-contents c =

@@ -5,4 +5,5 @@ use Rattle.ecr_cells.proofs.desk.SoloDeskAnyDesk.served.Goals as goal
 
 pub returns-clause-sound : goal.returns-clause-sound
 returns-clause-sound c = λ alone.
-    subst (λ (d : Desk). AreSound (still_state_of d).realm (still_state_of d).world.journals) c.self.view_is c.self.invariant.sound
+    subst (λ (d : Desk). AreSound (still_state_of d).realm (still_state_of d).world.journals) c.self.view_is
+    c.self.invariant.sound

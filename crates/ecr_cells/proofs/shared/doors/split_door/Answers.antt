@@ -1,29 +1,23 @@
-use Rattle.std.proofs.Common.{◌≡◌, Option, Some, is_some, sym, ap, subst}
+use Rattle.std.proofs.Common.{◌≡◌, Option, Some, sym, ap, subst}
 use Rattle.std.proofs.lemmas.Result.{on_ok_weaker}
 use Rattle.ecr_model.specs.declared.names.Name.{Name}
 use Rattle.ecr_turn.specs.Passes.{Known}
-use Rattle.ecr_cells.specs.Shared.{Hangs, door_at}
+use Rattle.ecr_cells.specs.Doors.{Hangs, door_at}
 use Rattle.ecr_cells.specs.Splits.{IsSplitFrom, standing}
-use Rattle.ecr_cells.proofs.SplitLemmas.{DoorsStay-hangs}
+use Rattle.ecr_cells.proofs.SplitLemmas.{DoorsStay-lent}
 use Rattle.ecr_cells.proofs.shared.doors.split_door.Goals as goal
 
 pub returns-in_err-other-in-Some-clause-kept : goal.returns-in_err-other-in-Some-clause-kept
 returns-in_err-other-in-Some-clause-kept g c =
-    let doors = c.args.doors.now.entries in
-    let name = c.args.name.now in
     let after = c.another.new.self in
-    let found : door_at doors name ≡ Some c.in-Some.door.now = sym c.in-Some.ensures.value in
-    DoorsStay-hangs doors (c.get_mut.follows.lender after).entries name c.in-Some.door.now after found
-    (ap standing c.another.ensures.kept) ((c.get_mut.follows.holds after).3 (ap is_some found)).0
+    DoorsStay-lent _ (c.get_mut.follows.lender after).entries c.args.name.now _ after c.in-Some.ensures.value
+    (ap standing c.another.ensures.kept) (λ there. ((c.get_mut.follows.holds after).3 there).0)
 
 pub returns-clause-kept : goal.returns-clause-kept
 returns-clause-kept g c =
-    let doors = c.args.doors.now.entries in
-    let name = c.args.name.now in
     let after = c.another.new.self in
-    let found : door_at doors name ≡ Some c.in-Some.door.now = sym c.in-Some.ensures.value in
-    DoorsStay-hangs doors (c.get_mut.follows.lender after).entries name c.in-Some.door.now after found
-    (ap standing c.another.ensures.kept) ((c.get_mut.follows.holds after).3 (ap is_some found)).0
+    DoorsStay-lent _ (c.get_mut.follows.lender after).entries c.args.name.now _ after c.in-Some.ensures.value
+    (ap standing c.another.ensures.kept) (λ there. ((c.get_mut.follows.holds after).3 there).0)
 
 pub returns-clause-split : goal.returns-clause-split
 unfolding IsSplitFrom

@@ -2,7 +2,7 @@ use Rattle.std.proofs.Common.{◌≡◌, List, take, All, IsSome, sym, ◌∙◌
 use Rattle.std.proofs.lemmas.List.{take_all}
 use Rattle.std.specs.Map.{keys_of}
 use Rattle.ecr_model.specs.declared.names.Name.{Name}
-use Rattle.ecr_cells.specs.Shared.{door_at}
+use Rattle.ecr_cells.specs.Doors.{door_at}
 use Rattle.ecr_cells.specs.Splits.{AreSplitting}
 use Rattle.ecr_cells.proofs.SplitLemmas.{AreSplit-all, AreSplitting-none, AreSplitting-splits, IsSome-splitting}
 use Rattle.ecr_cells.proofs.shared.doors.split_doors.Goals as goal

@@ -17,7 +17,8 @@ invariant_of-self-2 c =
     (ap (λ (h : Site). h.directory.site) c.self.view_is ∙ c.requires.at)
     (c.in_ok-cell.ensures ∙ ap (λ k. record { key = k; limits = s.limits; journal = [] }) c.in_ok-copy_of.ensures) in
     let puts : Puts s.repositories.entries news name c.next_in.new.cell =
-    subst (λ (n : Name). Puts s.repositories.entries news n c.next_in.new.cell) c.in_ok-name.ensures c.in_ok-put.ensures.put in
+    subst (λ (n : Name). Puts s.repositories.entries news n c.next_in.new.cell) c.in_ok-name.ensures
+    c.in_ok-put.ensures.put in
     AreOfSite-put s.limits s.directory s.repositories.entries news name c.next_in.new.cell c.self.invariant
     (record {
       key = c.next_in.ensures.stays.0 ∙ is.key;
@@ -39,11 +40,13 @@ returns-clause-turned c =
     IsOfName-new s.directory c.args.key s.limits c.in_ok-cell.cell c.self.invariant.limited site
     (c.in_ok-cell.ensures ∙ ap (λ k. record { key = k; limits = s.limits; journal = [] }) c.in_ok-copy_of.ensures) in
     let puts : Puts s.repositories.entries news name c.next_in.new.cell =
-    subst (λ (n : Name). Puts s.repositories.entries news n c.next_in.new.cell) c.in_ok-name.ensures c.in_ok-put.ensures.put in
+    subst (λ (n : Name). Puts s.repositories.entries news n c.next_in.new.cell) c.in_ok-name.ensures
+    c.in_ok-put.ensures.put in
     let absent : state_of_name s.repositories.entries name ≡ None =
     ap (λ (h : Site). state_of_name h.repositories name) c.self.view_is ∙ c.requires.absent in
     let empty : lines_of_name s.repositories.entries name ≡ c.in_ok-cell.cell.journal =
     lines_of_name-none s.repositories.entries name absent ∙ sym (ap (λ (r : State). r.journal) c.in_ok-cell.ensures) in
     subst (λ (h : Site). IsTurn h after (Repository c.args.key) ask told c.in_ok-done.done.1) c.self.view_is
-    (IsTurn-repository s.directory s.repositories.entries news c.args.key c.in_ok-cell.cell c.next_in.new.cell ask told c.in_ok-done.done.1
+    (IsTurn-repository s.directory s.repositories.entries news c.args.key c.in_ok-cell.cell c.next_in.new.cell ask told
+    c.in_ok-done.done.1
     site empty is puts c.in_ok-done.ensures.turned)

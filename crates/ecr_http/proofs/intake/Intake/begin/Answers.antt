@@ -19,7 +19,8 @@ returns-then-size-saturating_sub-clause-goes_on c = λ before after old body sam
     let more = c.if-size-saturating_sub.true in
     let some : 0 < c.in-Some.size = omega (arith, c.in-Some.size-test.1) in
     Line-over c.args.limit before old after c.args.self.now body c.args.place c.in-Some.size c.requires
-    (Says-taken c.args.self.now.buffer _ c.args.place (Some c.in-Some.size) c.as_slice.ensures.bytes c.in-Some.ensures.size) some
+    (Says-taken c.args.self.now.buffer _ c.args.place (Some c.in-Some.size) c.as_slice.ensures.bytes
+    c.in-Some.ensures.size) some
     (omega arith) d
 
 pub returns-else-size-saturating_sub-clause-goes_on : goal.returns-else-size-saturating_sub-clause-goes_on
@@ -32,7 +33,8 @@ returns-else-size-saturating_sub-clause-goes_on c = λ before after old body sam
     (stages.Data c.in-Some.size))
     (ap (λ (k : ℕ). drop k c.args.self.now.buffer) next ∙ sym c.skip-in-Some.ensures.rest)
     (Line-data c.args.limit before old after c.args.self.now body c.args.place c.in-Some.size c.requires
-    (Says-taken c.args.self.now.buffer _ c.args.place (Some c.in-Some.size) c.as_slice.ensures.bytes c.in-Some.ensures.size) some
+    (Says-taken c.args.self.now.buffer _ c.args.place (Some c.in-Some.size) c.as_slice.ensures.bytes
+    c.in-Some.ensures.size) some
     (omega arith) d)
 
 pub returns-in-Some-eq0-clause-goes_on : goal.returns-in-Some-eq0-clause-goes_on

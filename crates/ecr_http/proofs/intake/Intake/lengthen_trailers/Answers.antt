@@ -19,7 +19,8 @@ returns-clause-goes_on g c = λ limit scanned before old body d.
     (subst (λ (n : ℕ). Awaits limit before old (g.S.Source.left c.args.source.now) c.args.self.now body
     (stages.Trailers n))
     (sym c.len-scanned.ensures.length)
-    (Trailers-awaits limit before old _ c.args.self.now body scanned c.requires (omega (arith, c.len.ensures.length)) d))
+    (Trailers-awaits limit before old _ c.args.self.now body scanned c.requires (omega (arith, c.len.ensures.length))
+    d))
 
 pub returns-clause-nearer : goal.returns-clause-nearer
 unfolding left_to_do

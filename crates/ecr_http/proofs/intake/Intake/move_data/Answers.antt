@@ -1,14 +1,13 @@
-use Rattle.std.proofs.Common.{◌-◌, ◌<◌, ℕ, List, drop, sym, subst, arith}
-use Rattle.std.proofs.lemmas.Result.{err_from_is_err_and}
+use Rattle.std.proofs.Common.{◌-◌, ◌≤◌, ℕ, List, drop, sym, subst, arith}
 use Rattle.ecr_http.specs.Decoding.{Decodes, left_to_do}
 use Rattle.ecr_http.specs.declared.chunks.Stage.TheVariants as stages
 use Rattle.ecr_http.proofs.BodyLemmas.{rest_of}
-use Rattle.ecr_http.proofs.DecodingLemmas.{nearer_by_use}
+use Rattle.ecr_http.proofs.DecodingLemmas.{no_farther_by_use}
 use Rattle.ecr_http.proofs.StageLemmas.{Data-moved}
 use Rattle.ecr_http.proofs.intake.Intake.move_data.Goals as goal
 
-pub returns-clause-goes_on : goal.returns-clause-goes_on
-returns-clause-goes_on c = λ limit before after old d.
+pub returns-clause-moved : goal.returns-clause-moved
+returns-clause-moved c = λ limit before after old d.
     let size = c.len.ensures.length in
     let least = c.min-count.ensures in
     let stage = stages.Data (c.args.left - c.min-count.result) in
@@ -20,19 +19,12 @@ returns-clause-goes_on c = λ limit before after old d.
     (Data-moved limit before old after c.args.self.now c.args.body.now.items c.args.left c.min-count.result
     (omega arith) (omega arith) d))
 
-pub returns-clause-nearer : goal.returns-clause-nearer
-returns-clause-nearer c =
+pub returns-clause-no_farther : goal.returns-clause-no_farther
+returns-clause-no_farther c =
     let size = c.len.ensures.length in
     let least = c.min-count.ensures in
-    let stage = stages.Data (c.args.left - c.min-count.result) in
-    subst (λ (b : List ℕ). left_to_do stage (rest_of b c.args.self.now) < left_to_do
+    let due = c.args.left - c.min-count.result in
+    subst (λ (b : List ℕ). left_to_do (stages.Data due) (rest_of b c.args.self.now) ≤ left_to_do
     (stages.Data c.args.left) c.args.self.now)
     (sym c.in_ok-move_to.ensures.rest)
-    (nearer_by_use c.args.self.now c.min-count.result (stages.Data c.args.left) stage (omega arith)
-    (omega (arith, c.requires.some, c.requires.there)))
-
-pub returns-in_err-move_to-clause-goes_on : goal.returns-in_err-move_to-clause-goes_on
-returns-in_err-move_to-clause-goes_on c = λ limit before after old d.
-    let same = c.in_err-move_to.ensures.err in
-    let p = err_from_is_err_and c.from_residual.result c.from_residual.ensures.1 in
-    rw (p.1, p.2, same.1) (record { come = d.come; cause = tt })
+    (no_farther_by_use c.args.self.now c.min-count.result c.args.left due (omega arith))

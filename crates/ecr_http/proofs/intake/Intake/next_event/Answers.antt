@@ -19,10 +19,12 @@ returns-clause-ready g c = λ stays.
 
 pub returns-clause-read_cause : goal.returns-clause-read_cause
 returns-clause-read_cause g c = λ is.
-    c.next_request-found.ensures.read_cause (event_of-ReadFault c.next_request-found.new.self c.next_request-found.result
+    c.next_request-found.ensures.read_cause
+    (event_of-ReadFault c.next_request-found.new.self c.next_request-found.result
     (sym c.event_of.ensures.event ∙ is))
 
 pub returns-clause-write_cause : goal.returns-clause-write_cause
 returns-clause-write_cause g c = λ is.
-    c.next_request-found.ensures.write_cause (event_of-WriteFault c.next_request-found.new.self c.next_request-found.result
+    c.next_request-found.ensures.write_cause
+    (event_of-WriteFault c.next_request-found.new.self c.next_request-found.result
     (sym c.event_of.ensures.event ∙ is))

@@ -55,7 +55,8 @@ loop-body-preserved g c =
     record {
       gathers = Gathers-gains c.args.size _ c.args.self.now _ _ (rest_of c.move_to.new.self c.loop-body.self)
           c.fill.new.self c.move_to.new.to.items
-          (moved c.args.size count _ c.args.self.now _ c.loop-body.self c.loop-body.body.items c.move_to.new.to.items c.move_to.new.self
+          (moved c.args.size count _ c.args.self.now _ c.loop-body.self c.loop-body.body.items c.move_to.new.to.items
+          c.move_to.new.self
           same e.moved e.rest c.loop-body.invariant.gathers)
           c.in_ok-fill.ensures.reads;
       later = omega arith;
@@ -71,8 +72,10 @@ returns-then-len-size-clause-takes g c = λ limit fits.
     let count = c.args.size - c.len.result in
     let same : count ≡ c.args.size - length c.loop-body.body.items =
     omega (arith, c.len.ensures, c.loop-body.body.ok) in
-    HasBody-whole limit c.args.size _ c.args.self.now _ (rest_of c.move_to.new.self c.loop-body.self) c.move_to.new.to fits
-    (moved c.args.size count _ c.args.self.now _ c.loop-body.self c.loop-body.body.items c.move_to.new.to.items c.move_to.new.self
+    HasBody-whole limit c.args.size _ c.args.self.now _ (rest_of c.move_to.new.self c.loop-body.self)
+    c.move_to.new.to fits
+    (moved c.args.size count _ c.args.self.now _ c.loop-body.self c.loop-body.body.items c.move_to.new.to.items
+    c.move_to.new.self
     same e.moved e.rest c.loop-body.invariant.gathers)
     (omega (arith, c.len-in-loop-body.ensures, c.move_to.new.to.ok, c.if-len-size.true))
 
@@ -88,7 +91,8 @@ returns-in_err-fill-clause-takes g c = λ limit fits.
     let count = c.args.size - c.len.result in
     let same : count ≡ c.args.size - length c.loop-body.body.items =
     omega (arith, c.len.ensures, c.loop-body.body.ok) in
-    let gathers = moved c.args.size count _ c.args.self.now _ c.loop-body.self c.loop-body.body.items c.move_to.new.to.items c.move_to.new.self
+    let gathers = moved c.args.size count _ c.args.self.now _ c.loop-body.self c.loop-body.body.items
+    c.move_to.new.to.items c.move_to.new.self
     same e.moved e.rest c.loop-body.invariant.gathers in
     let less : length c.move_to.new.to.items ≢ c.args.size = λ is. c.if-len-size.false
     (omega (arith, c.len-in-loop-body.ensures, c.move_to.new.to.ok)) in

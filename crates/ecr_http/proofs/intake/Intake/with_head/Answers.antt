@@ -19,10 +19,12 @@ returns-in_default-clause-next g c = λ before old read none.
 pub returns-then-not-fits_limit-clause-next : goal.returns-then-not-fits_limit-clause-next
 returns-then-not-fits_limit-clause-next g c = λ before old read none.
     let limit = c.max_body-limit.result in
-    let is : limit ≡ max_body c.args.head.target = c.max_body-limit.ensures.value ∙ ap max_body c.as_bytes.ensures.text in
+    let is : limit ≡ max_body c.args.head.target = c.max_body-limit.ensures.value
+    ∙ ap max_body c.as_bytes.ensures.text in
     TakesRequest-fault before (g.K.Sink.held c.args.sink.now) old
     (g.S.Source.left c.args.source.now) c.args.self.now (faults.TooLong sections.Body limit) read none
-    (subst (λ (n : ℕ). IsFront c.args.self.now.at c.args.self.now.buffer (short false (too_long sections.Body n))) (sym is)
+    (subst (λ (n : ℕ). IsFront c.args.self.now.at c.args.self.now.buffer (short false (too_long sections.Body n)))
+    (sym is)
     (IsFront-over c.args.self.now.at c.args.self.now.buffer c.args.count c.args.head c.in-Some.framing
     c.requires.ends c.requires.parses (sym c.framing_of.ensures.framing ∙ c.in-Some.is)
     (λ fits. let clash : false ≡ true = sym c.if-not-fits_limit.true ∙ c.fits_limit.ensures.fits.1

@@ -20,7 +20,9 @@ returns-in-Done-clause-sends g c =
     let body = concat r.body.items ++ r.tail.items in
     let first = subst (λ l. Appends (g.K.Sink.held c.args.sink.now)
     (g.K.Sink.held c.send.new.sink) l) c.deref.ensures.value c.in-Done.ensures.sends in
-    let second = subst (λ l. Sends (g.K.Sink.held c.send.new.sink) (g.K.Sink.held c.send_body.new.sink) (concat l ++ c.deref-in-Done-2.result.now) c.send_body.result) c.deref-in-Done.ensures.value c.send_body.ensures.sends in
+    let second = subst (λ l. Sends (g.K.Sink.held c.send.new.sink) (g.K.Sink.held c.send_body.new.sink)
+    (concat l ++ c.deref-in-Done-2.result.now) c.send_body.result) c.deref-in-Done.ensures.value
+    c.send_body.ensures.sends in
     let third = subst (λ l. Sends (g.K.Sink.held c.send.new.sink) (g.K.Sink.held c.send_body.new.sink)
     (concat r.body.items ++ l) c.send_body.result) c.deref-in-Done-2.ensures.value second in
     subst (λ l. Sends (g.K.Sink.held c.args.sink.now) (g.K.Sink.held c.send_body.new.sink) l c.send_body.result)

@@ -7,4 +7,5 @@ pub returns-clause-repositories : goal.returns-clause-repositories
 returns-clause-repositories c key limits = the_last_is_now (steps.after_line key limits) steps.first_state
 
 pub returns-clause-directories : goal.returns-clause-directories
-returns-clause-directories c limits = the_last_is_now (directories.directory_after_line limits) directories.first_directory
+returns-clause-directories c limits = the_last_is_now (directories.directory_after_line limits)
+    directories.first_directory

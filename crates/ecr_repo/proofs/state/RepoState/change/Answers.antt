@@ -14,7 +14,8 @@ invariant_of-self-2 c =
     let later : past c.self.inside.journal.items ≤ c.args.ticket =
     subst (λ (s : State). past s.journal ≤ c.args.ticket) (sym c.self.view_is) c.requires.later in
     rw (c.enter.ensures, c.make_room.ensures.kept, done.changed, done.leaves, entry)
-    (IsKept-called c.self.inside.key c.self.inside.limits c.self.inside.journal.items c.self.inside.cell c.args.caller turn
+    (IsKept-called c.self.inside.key c.self.inside.limits c.self.inside.journal.items c.self.inside.cell
+    c.args.caller turn
     c.args.call.now c.self.invariant later)
 
 pub returns-clause-contents : goal.returns-clause-contents

@@ -124,8 +124,13 @@ returns-in-TooLong-clause-goes_on g c = λ set before same s.
             write_faults = g.K.Sink.faults c.refuse-in-TooLong.new.sink;
           }) a
           (g.D.AnyDesk.seen c.args.desk.now) c.refuse-in-TooLong.result) (sym kept)
-          (Serves-long set before _ between _ _ _ (account_in c.make_room.new.self) _ c.in-TooLong.at c.in-TooLong.section c.in-TooLong.limit c.refuse-in-TooLong.result t.so_far (ap (λ (p : Point). p.closed) c.make_room.ensures.reader ∙ c.requires.opened) c.in-TooLong.ensures.next refl refl
-          (subst (λ l. SendsLast between.held (g.K.Sink.held c.refuse-in-TooLong.new.sink) l (ends.TooLong c.in-TooLong.at c.in-TooLong.limit) c.refuse-in-TooLong.result) c.long_reply.ensures c.refuse-in-TooLong.ensures.sends)
+          (Serves-long set before _ between _ _ _ (account_in c.make_room.new.self) _ c.in-TooLong.at
+          c.in-TooLong.section c.in-TooLong.limit c.refuse-in-TooLong.result t.so_far
+          (ap (λ (p : Point). p.closed) c.make_room.ensures.reader ∙ c.requires.opened)
+          c.in-TooLong.ensures.next refl refl
+          (subst (λ l. SendsLast between.held (g.K.Sink.held c.refuse-in-TooLong.new.sink) l
+          (ends.TooLong c.in-TooLong.at c.in-TooLong.limit) c.refuse-in-TooLong.result) c.long_reply.ensures
+          c.refuse-in-TooLong.ensures.sends)
           c.in-TooLong.ensures.writes_later c.refuse-in-TooLong.ensures.cause);
     }
 

@@ -64,7 +64,14 @@ invariant_of-self-2 c =
     let ticket = c.args.ticket in
     let name = c.args.name.now in
     let is = sym c.self.view_is in
-    rw (c.push_reserved.ensures.items, c.line_of.ensures, c.in_ok-insert.ensures.keys, c.in_ok-reserve.ensures.items, c.in_ok-told.ensures, c.in_ok-kept.ensures)
+    rw (
+      c.push_reserved.ensures.items,
+      c.line_of.ensures,
+      c.in_ok-insert.ensures.keys,
+      c.in_ok-reserve.ensures.items,
+      c.in_ok-told.ensures,
+      c.in_ok-kept.ensures,
+    )
     (AreNamesOf-registration_line (record {
       site = s.site;
       served = s.served.items;

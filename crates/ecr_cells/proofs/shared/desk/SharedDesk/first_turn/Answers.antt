@@ -4,10 +4,11 @@ use Rattle.ecr_model.specs.declared.registry.journal.CellKey.TheVariants.{Direct
 use Rattle.ecr_model.specs.declared.names.Name.{Name}
 use Rattle.ecr_model.specs.registry.Scripts.{Realm}
 use Rattle.ecr_model.specs.requests.Requests.{first_ask, first_turn}
-use Rattle.ecr_desk.specs.Desks.{Gates, Ran, seen_with}
+use Rattle.ecr_desk.specs.Desks.{Gates, Ran}
 use Rattle.ecr_desk.proofs.DeskLemmas.{StoppedWithin-none}
 use Rattle.ecr_cells.specs.Deeds.{ask_of, told_of}
-use Rattle.ecr_cells.specs.Shared.{Looks, caller_state, gate_at, pass_of, realm_of, shared_of}
+use Rattle.ecr_cells.specs.Doors.{realm_of_frame}
+use Rattle.ecr_cells.specs.Shared.{Looks, caller_state, gate_at, seen_through}
 use Rattle.ecr_cells.proofs.RunLemmas.{MadeTurn, Ran-first_turn}
 use Rattle.ecr_cells.proofs.SharedViewLemmas.{StoppedWithin-first_turn}
 use Rattle.ecr_cells.proofs.WorldLemmas.{on_err_any}
@@ -15,13 +16,13 @@ use Rattle.ecr_cells.proofs.shared.desk.SharedDesk.first_turn.Goals as goal
 
 pub returns-in_err-site-clause-err : goal.returns-in_err-site-clause-err
 returns-in_err-site-clause-err g c =
-    let seen = seen_with (shared_of c.args.self.now) (pass_of c.args.pass.now) in
+    let seen = seen_through c.args.self.now c.args.pass.now in
     on_err_any c.from_residual.result
     (StoppedWithin-none 0 seen seen (first_turn c.args.key.now c.args.call.now) refl)
 
 pub returns-in_err-copy_of_name-clause-err : goal.returns-in_err-copy_of_name-clause-err
 returns-in_err-copy_of_name-clause-err g c =
-    let seen = seen_with (shared_of c.args.self.now) (pass_of c.args.pass.now) in
+    let seen = seen_through c.args.self.now c.args.pass.now in
     on_err_any c.from_residual-in_err-copy_of_name.result
     (StoppedWithin-none 0 seen seen (first_turn c.args.key.now c.args.call.now) refl)
 
@@ -41,15 +42,15 @@ returns-clause-ran g c =
     let asks : ask ≡ first_ask key.name c.args.call.now =
     c.first_deed-deed.ensures.asks ∙ ap (λ (n : Name). first_ask n c.args.call.now) c.in_ok-copy_of_name.ensures in
     IfOk-weaker c.in_directory.result
-    (λ t. MadeTurn (caller_state (realm_of c.directory_of-turnstile.result.now.frame) before)
-    (caller_state (realm_of c.directory_of-turnstile.result.now.frame) after) (Directory c.in_ok-site.site) ask
+    (λ t. MadeTurn (caller_state (realm_of_frame c.directory_of-turnstile.result.now.frame) before)
+    (caller_state (realm_of_frame c.directory_of-turnstile.result.now.frame) after) (Directory c.in_ok-site.site) ask
     (told_of t.0) t.1)
-    (λ t. Ran (seen_with (shared_of desk) (pass_of before)) (seen_with (shared_of desk) (pass_of after))
+    (λ t. Ran (seen_through desk before) (seen_through desk after)
     (first_turn key c.args.call.now) (told_of t.0) (t.1 ∷ []))
     (λ t made. Ran-first_turn (caller_state realm before) (caller_state realm after) key c.args.call.now
     c.in_ok-site.site ask (told_of t.0) t.1 c.in_ok-site.ensures asks
     (subst (λ (r : Realm). MadeTurn (caller_state r before) (caller_state r after) (Directory c.in_ok-site.site) ask
-    (told_of t.0) t.1) (ap realm_of c.directory_of-turnstile.ensures.frame) made))
+    (told_of t.0) t.1) (ap realm_of_frame c.directory_of-turnstile.ensures.frame) made))
     c.in_directory.ensures.ran
 
 pub returns-clause-err : goal.returns-clause-err
@@ -62,5 +63,5 @@ returns-clause-err g c =
     (λ looks. StoppedWithin-first_turn realm before after c.args.key.now c.args.call.now c.in_ok-site.site
     c.in_ok-site.ensures
     (subst (λ (r : Realm). Looks r before after (Directory c.in_ok-site.site))
-    (ap realm_of c.directory_of-turnstile.ensures.frame) looks))
+    (ap realm_of_frame c.directory_of-turnstile.ensures.frame) looks))
     c.in_directory.ensures.err

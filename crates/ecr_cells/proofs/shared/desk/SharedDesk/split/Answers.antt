@@ -22,7 +22,8 @@ turnstile_of-turnstile-requires g c =
     record {
       there = IsSome-gate sites (gate_at c.args.self.now.sites) names c.loop-site.site-index c.site-item.result
           c.requires.of
-          (subst (λ (ss : List SiteId). All (λ s. IsSome (passes_at sites s)) ss) (sym c.as_slice-site-items.ensures.value)
+          (subst (λ (ss : List SiteId). All (λ s. IsSome (passes_at sites s)) ss)
+          (sym c.as_slice-site-items.ensures.value)
           c.in_ok-sites.ensures.found)
           c.loop-site-test.true c.site-item.is;
     }
@@ -44,7 +45,8 @@ loop-site-preserved g c = record {
   splitting = AreSitesSplitting-splits (pass_of c.args.pass.now) c.loop-site.splits.entries
       c.split_site.new.splits.entries c.as_slice-site-items.result.now c.loop-site.site-index c.site-item.result
       c.loop-site-test.true c.site-item.is c.loop-site.invariant.splitting
-      (subst (λ (p : PassState). SplitsSite p c.loop-site.splits.entries c.split_site.new.splits.entries c.site-item.result)
+      (subst (λ (p : PassState). SplitsSite p c.loop-site.splits.entries c.split_site.new.splits.entries
+      c.site-item.result)
       c.loop-site.invariant.kept c.in_ok-split_site.ensures.split);
 }
 

@@ -1,7 +1,7 @@
 use Rattle.std.proofs.Common.{◌≡◌, Option, Some, is_some, IfSome, sym, ap, subst}
 use Rattle.ecr_turn.specs.Passes.{Known}
 use Rattle.ecr_site.specs.States.{frame_of_journal}
-use Rattle.ecr_cells.specs.Shared.{Hangs, IsOpened, door_at, frame_of_name}
+use Rattle.ecr_cells.specs.Doors.{Hangs, IsOpened, door_at, frame_of_name}
 use Rattle.ecr_cells.proofs.SharedViewLemmas.{AreDoors-hangs}
 use Rattle.ecr_cells.proofs.shared.directory.SharedDirectory.give.Goals as goal
 

@@ -6,7 +6,7 @@ use Rattle.ecr_model.specs.registry.Views.{ExtendsView}
 use Rattle.ecr_turn.specs.Passes.{Gate, Known, known_in}
 use Rattle.ecr_repo.specs.States.{State}
 use Rattle.ecr_cells.specs.Deeds.{ask_of, changes, told_of}
-use Rattle.ecr_cells.specs.Shared.{RepositoryAt, frame_of_repository, realm_of, view_of}
+use Rattle.ecr_cells.specs.Doors.{RepositoryAt, frame_of_repository, realm_of_frame, view_of}
 use Rattle.ecr_cells.specs.Turns.{turn_in_repository}
 use Rattle.ecr_cells.proofs.SharedTurnLemmas.{past-rises, IsMade-turn, Comes-left, Visited-at, Visited-repository}
 use Rattle.ecr_cells.proofs.WorldLemmas.{on_err_any}
@@ -53,10 +53,11 @@ returns-clause-visited g c =
     c.ticket-ticket.ensures.ticket (ap (λ (r : RepositoryAt). r.state.journal) c.change.ensures.value)
     c.caller-caller.ensures.caller c.leave.ensures.pass c.leave.ensures.seen
     (ap (λ (x : State). x.journal) turn.left) in
-    Visited-at (realm_of (frame_of_repository s)) (realm_of c.args.self.now.gate.frame) (view_of c.in-Some.pass)
+    Visited-at (realm_of_frame (frame_of_repository s)) (realm_of_frame c.args.self.now.gate.frame)
+    (view_of c.in-Some.pass)
     (view_of c.args.self.now) (view_of c.leave.result) (Repository s.state.key) (Repository c.args.key)
     (ask_of c.args.deed) (told_of c.in_ok-done.done) c.ticket-ticket.result (changes c.in_ok-done.done)
-    c.placed-place.result (ap realm_of frame) (ap view_of (sym known))
+    c.placed-place.result (ap realm_of_frame frame) (ap view_of (sym known))
     (ap (λ (f : Frame). f.cell) frame ∙ c.requires.at) c.placed-place.ensures
     (Visited-repository s.served s.state c.make-made.new.self.state c.in-Some.pass c.leave.result
     (ask_of c.args.deed) c.in_ok-done.done c.ticket-ticket.result c.caller-caller.result turn made)

@@ -6,7 +6,8 @@ use Rattle.ecr_model.specs.registry.Views.{ExtendsView}
 use Rattle.ecr_turn.specs.Passes.{Known, known_in}
 use Rattle.ecr_site.specs.States.{SiteJournal, frame_of_journal}
 use Rattle.ecr_cells.specs.Deeds.{ask_of, changes, told_of}
-use Rattle.ecr_cells.specs.Shared.{DirectoryAt, SiteKnown, frame_of_directory, realm_of, view_of}
+use Rattle.ecr_cells.specs.Doors.{DirectoryAt, frame_of_directory, realm_of_frame, view_of}
+use Rattle.ecr_cells.specs.Shared.{SiteKnown}
 use Rattle.ecr_cells.specs.Turns.{turn_in_directory}
 use Rattle.ecr_cells.proofs.SharedTurnLemmas.{past-rises, IsMade-turn, Comes-left, Visited-at, Visited-directory}
 use Rattle.ecr_cells.proofs.WorldLemmas.{on_err_any}
@@ -54,10 +55,10 @@ returns-clause-visited g c =
     c.ticket-ticket.ensures.ticket (ap (λ (x : DirectoryAt). x.directory.journal) c.change.ensures.value)
     c.caller-caller.ensures.caller c.leave.ensures.pass c.leave.ensures.seen
     (ap (λ (x : SiteJournal). x.journal) turn.left) in
-    Visited-at (realm_of (frame_of_directory (frame_of_journal d))) (realm_of c.args.turnstile.now.frame)
+    Visited-at (realm_of_frame (frame_of_directory (frame_of_journal d))) (realm_of_frame c.args.turnstile.now.frame)
     (view_of c.in-Some.pass) (view_of c.args.self.now.directory) (view_of c.leave.result) (Directory d.site)
     (Directory c.args.site) (ask_of c.args.deed) (told_of c.in_ok-done.done) c.ticket-ticket.result
-    (changes c.in_ok-done.done) c.placed-place.result (ap realm_of frame) (ap view_of (sym known))
+    (changes c.in_ok-done.done) c.placed-place.result (ap realm_of_frame frame) (ap view_of (sym known))
     (ap (λ (f : Frame). f.cell) frame ∙ c.requires.at) c.placed-place.ensures
     (Visited-directory d c.make-made.new.self.directory c.in-Some.pass c.leave.result (ask_of c.args.deed)
     c.in_ok-done.done c.ticket-ticket.result c.caller-caller.result turn made)

@@ -1,8 +1,9 @@
 use Rattle.std.proofs.Common.{◌≡◌, Some, Option, refl, sym, ap, ◌∙◌, subst}
 use Rattle.ecr_turn.specs.Passes.{Gate, Known, known_in}
-use Rattle.ecr_cells.specs.Shared.{SiteKnown, AreOfSite, site_frame_of}
+use Rattle.ecr_cells.specs.Doors.{site_frame_of}
+use Rattle.ecr_cells.specs.Shared.{SiteKnown, AreDoorsOfSite}
 use Rattle.ecr_cells.specs.Splits.{AreSplit, IsSplitFrom}
-use Rattle.ecr_cells.proofs.SplitLemmas.{AreOfSite-split}
+use Rattle.ecr_cells.proofs.SplitLemmas.{AreDoorsOfSite-split}
 use Rattle.ecr_cells.proofs.shared.site.SitePass.split.Goals as goal
 
 pub invariant_of-result : goal.invariant_of-result
@@ -13,8 +14,8 @@ invariant_of-result g c =
     let gate : (known_in s.pass).gate ≡ other.gate =
     ap (λ (o : Option Known). (known_in o).gate) c.in-Some.is ∙ sym c.in_ok-other-in-Some.ensures.given.0 in (
       refl,
-      AreOfSite-split (site_frame_of other.gate.frame) s.doors.entries splits
-          (subst (λ (x : Gate). AreOfSite (site_frame_of x.frame) s.doors.entries) gate c.self.invariant.1)
+      AreDoorsOfSite-split (site_frame_of other.gate.frame) s.doors.entries splits
+          (subst (λ (x : Gate). AreDoorsOfSite (site_frame_of x.frame) s.doors.entries) gate c.self.invariant.1)
           c.in_ok-doors.ensures.split,
     )
 

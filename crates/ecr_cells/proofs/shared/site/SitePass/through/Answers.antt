@@ -3,8 +3,9 @@ use Rattle.std.proofs.lemmas.Result.{IfOk-weaker, on_err_weaker}
 use Rattle.ecr_model.specs.declared.names.Name.{Name}
 use Rattle.ecr_turn.specs.Passes.{Known, known_in}
 use Rattle.ecr_cells.specs.Deeds.{ask_of, told_of}
-use Rattle.ecr_cells.specs.Shared.{Enters, Hangs, Peers, SiteKnown, door_at, frame_of_name, realm_of, site_frame_of}
-use Rattle.ecr_cells.proofs.SharedViewLemmas.{AreOfSite-hangs, Enters-first, Hangs-there, Peers-first}
+use Rattle.ecr_cells.specs.Doors.{Hangs, door_at, frame_of_name, realm_of_frame, site_frame_of}
+use Rattle.ecr_cells.specs.Shared.{Enters, Peers, SiteKnown}
+use Rattle.ecr_cells.proofs.SharedViewLemmas.{AreDoorsOfSite-hangs, Enters-first, Hangs-there, Peers-first}
 use Rattle.ecr_cells.proofs.shared.site.SitePass.through.Goals as goal
 
 pub invariant_of-self-2 : goal.invariant_of-self-2
@@ -15,8 +16,9 @@ invariant_of-self-2 g c =
     subst (λ (n : Name). Hangs s.doors.entries c.hang.new.doors.entries n c.args.door) c.in_ok-name.ensures
     c.in_ok-hang.ensures.hung in (
       c.self.invariant.0,
-      AreOfSite-hangs site s.doors.entries c.hang.new.doors.entries c.args.key.name c.args.door c.self.invariant.1
-          (subst (λ (k : SiteKnown). c.args.door.gate.frame ≡ frame_of_name (site_frame_of k.directory.gate.frame) c.args.key.name)
+      AreDoorsOfSite-hangs site s.doors.entries c.hang.new.doors.entries c.args.key.name c.args.door c.self.invariant.1
+          (subst (λ (k : SiteKnown). c.args.door.gate.frame ≡ frame_of_name (site_frame_of k.directory.gate.frame)
+          c.args.key.name)
           (sym c.self.view_is) c.requires.opened.frame_is) hung,
     )
 
@@ -33,7 +35,7 @@ returns-clause-entered g c =
     let s = c.self.inside in
     let key = c.args.key in
     let mid = c.hang.new.doors.entries in
-    let realm = realm_of (known_in s.pass).gate.frame in
+    let realm = realm_of_frame (known_in s.pass).gate.frame in
     let ask = ask_of c.args.deed in
     let hung : Hangs s.doors.entries mid key.name c.args.door =
     subst (λ (n : Name). Hangs s.doors.entries mid n c.args.door) c.in_ok-name.ensures c.in_ok-hang.ensures.hung in
@@ -41,9 +43,11 @@ returns-clause-entered g c =
     ap (λ (k : SiteKnown). door_at k.doors key.name) c.self.view_is ∙ c.requires.first in
     IfOk-weaker c.again.result
     (λ t. Enters realm mid c.again.new.self.doors key ask (told_of t.0) t.1)
-    (λ t. Enters (realm_of c.args.self.now.directory.gate.frame) c.args.self.now.doors c.again.new.self.doors key ask
+    (λ t. Enters (realm_of_frame c.args.self.now.directory.gate.frame) c.args.self.now.doors
+    c.again.new.self.doors key ask
     (told_of t.0) t.1)
-    (λ t entered. subst (λ (k : SiteKnown). Enters (realm_of k.directory.gate.frame) k.doors c.again.new.self.doors
+    (λ t entered. subst (λ (k : SiteKnown). Enters (realm_of_frame k.directory.gate.frame) k.doors
+    c.again.new.self.doors
     key ask (told_of t.0) t.1) c.self.view_is
     (Enters-first realm s.doors.entries mid c.again.new.self.doors key c.args.door ask (told_of t.0) t.1
     absent c.requires.opened.at_first c.requires.opened.unseen hung entered))

@@ -1,0 +1,14 @@
+pub mod Names
+pub mod Heads
+pub mod Streams
+pub mod Replies
+pub mod States
+pub mod Scripts
+pub mod Refusals
+pub mod Requests
+pub mod Sessions
+pub mod Manifests
+pub mod Policies
+pub mod Json
+pub mod Kept
+pub mod Facts
