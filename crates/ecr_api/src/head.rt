@@ -9,18 +9,20 @@ use std::alloc::Global;
 /// Room for each head, in bytes.
 const HEAD_ROOM: usize = 128;
 
-/// A reply of the JSON API up to its body of so many bytes; it says `close` where the session closes after it.
+/// A reply of the JSON API up to its body of so many bytes; it says `close` where the session closes after it. There is room
+/// for `room` bytes more behind it.
 #[tactic(auto, unfolding(ecr_model::specs::http::Replies::json_head))]
 pub(crate) fn write_json_head(
     alloc: Global,
     close: bool,
     status: &str,
     size: usize,
+    room: usize,
 ) -> Result<Vec<u8>, Mem>
     ensures { IfOk result (λ v. v.items ≡ json_head close status.now size) }
 {
     let digits = write_decimal(alloc, size)?;
-    let mut head = Vec::with_capacity(alloc, HEAD_ROOM)?;
+    let mut head = Vec::with_capacity(alloc, room.saturating_add(HEAD_ROOM))?;
     head.extend_from_slice(b"HTTP/1.1 ")?;
     head.extend_from_slice(status.as_bytes())?;
     head.extend_from_slice(b"\r\n")?;

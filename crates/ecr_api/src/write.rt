@@ -1,5 +1,5 @@
 // Replies as bytes (Amazon ECR API Reference; RFC 9112).
-ghost use Rattle.std.specs.Prelude.{◌≡◌, IfOk, None};
+ghost use Rattle.std.specs.Prelude.{◌≡◌, ◌++◌, IfOk, None};
 ghost use Rattle.ecr_model.specs.requests.Rendered.{json, refused, status_of, with_head};
 ghost use Rattle.ecr_http.specs.Replies.{message_bytes};
 ghost use Rattle.ecr_api.specs.Readings.{meaning};
@@ -12,6 +12,9 @@ use ecr_errors::refusal_body;
 use ecr_http::HttpReply;
 use ecr_model::{Mem, Refusal, Reply};
 use std::alloc::Global;
+
+/// The longest body, in bytes, that is written in one piece with its head.
+const ONE_WRITE: usize = 65_536;
 
 /// The reply to what was asked, with the content that it names, in its order (`blobs`); it says `close` where the session
 /// closes after it. No reply shows content yet.
@@ -40,16 +43,30 @@ pub fn write_refused(alloc: Global, refusal: &Refusal, close: bool) -> Result<Ht
     with_head(alloc, close, "400 Bad Request", body)
 }
 
-/// A reply of the JSON API with that body, which isn't copied.
+/// A reply of the JSON API with that body: one piece where the body is small, so that it goes out in one write with its head,
+/// and else two, so that it isn't copied.
 fn with_head(alloc: Global, close: bool, status: &str, body: Vec<u8>) -> Result<HttpReply, Mem>
     ensures { IfOk result (λ r. message_bytes r ≡ with_head close status.now body.items) }
 {
-    let head = write_json_head(alloc, close, status, body.len())?;
-    Ok(HttpReply {
+    let size = body.len();
+    if size > ONE_WRITE {
+        let head = write_json_head(alloc, close, status, size, 0)?;
+        return Ok(in_pieces(alloc, head, body));
+    }
+    let mut whole = write_json_head(alloc, close, status, size, size)?;
+    whole.extend_from_slice(&body)?;
+    Ok(in_pieces(alloc, whole, Vec::new(alloc)))
+}
+
+/// A reply that is written in those pieces.
+fn in_pieces(alloc: Global, head: Vec<u8>, tail: Vec<u8>) -> HttpReply
+    ensures { message_bytes result ≡ head.items ++ tail.items }
+{
+    HttpReply {
         head,
         body: Vec::new(alloc),
-        tail: body,
-    })
+        tail,
+    }
 }
 
 /// The status of a reply.

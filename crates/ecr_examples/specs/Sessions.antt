@@ -21,7 +21,7 @@ use Rattle.ecr_model.specs.requests.Actions.{Asked, cell, site, many, asks, refu
 use Rattle.ecr_model.specs.requests.Posed.{api, unrouted, is_json_call, target_of, base_of, posed_of, posed_script, posed_bytes}
 use Rattle.ecr_model.specs.requests.Rendered.{mutability_text, repository_data, site_asked, key_asked, row_data, rows_data, with_token, reply_data, status_of, with_head, json, refused}
 use Rattle.ecr_model.specs.requests.Requests.{plain}
-use Rattle.ecr_model.specs.sessions.Commands.{clock_words, usage_lines, fresh_session, exit_status}
+use Rattle.ecr_model.specs.sessions.Commands.{clock_words, usage_lines, ready_line, fresh_session, exit_status}
 use Rattle.ecr_model.specs.sessions.Sessions.{script_of, outcome_of, written, named_to, left_by, Exchange, requests_of, is_waiting, answer_to, sent_to, ending_reply, last_words, account_of, stands}
 use Rattle.ecr_examples.specs.Heads.{head}
 use Rattle.ecr_examples.specs.States.{app}
@@ -158,5 +158,6 @@ pub record CommandsEnd : Type 0 where
       ≡ codes "usage: ecrd session [--control] [--clock S] SITE...\n       ecrd bulk SEED COUNT\n       ecrd serve [--workers N] [--copiers N] ADDRESS SITE...\n"
   pub fresh_is : fresh_session sites (Some 3) ≡ record { realm = realm; first = fresh; fixed = Some 3 }
   pub statuses : map exit_status (ends.Whole ∷ ends.Usage ∷ ends.ReadFault ∷ ends.WriteFault ∷ ends.Mem
-      ∷ ends.Truncated 9
-      ∷ ends.Bad 9 ∷ ends.TooLong 9 10 ∷ ends.Spent ∷ []) ≡ 0 ∷ 2 ∷ 3 ∷ 4 ∷ 5 ∷ 7 ∷ 8 ∷ 8 ∷ 9 ∷ []
+      ∷ ends.AcceptFault ∷ ends.Truncated 9
+      ∷ ends.Bad 9 ∷ ends.TooLong 9 10 ∷ ends.Spent ∷ []) ≡ 0 ∷ 2 ∷ 3 ∷ 4 ∷ 5 ∷ 6 ∷ 7 ∷ 8 ∷ 8 ∷ 9 ∷ []
+  pub ready : ready_line ≡ codes "ready\n"

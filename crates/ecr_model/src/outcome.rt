@@ -25,6 +25,8 @@ pub enum End {
     WriteFault,
     /// There was no memory to read a request.
     Mem,
+    /// The acceptor of links failed.
+    AcceptFault,
     /// The input ended inside the request at this place.
     Truncated { at: u64 },
     /// What stands at this place is no request that is served.

@@ -4,3 +4,4 @@ pub mod Faults
 pub mod Told
 pub mod Plan
 pub mod Clock
+pub mod Accept

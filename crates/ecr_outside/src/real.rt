@@ -3,7 +3,7 @@ ghost use Rattle.std.specs.Prelude.{◌≡◌, ◌<◌, ◌≤◌, length, None,
 ghost use Rattle.ecr_model.specs.declared.names.TheConstants.{MAX_MOMENT};
 
 use crate::faults::Faults;
-use crate::{Clock, Got, Sink, Source, Took};
+use crate::{Clock, Clocks, Got, Sink, Source, Took};
 use ecr_model::{MAX_MOMENT, Moment};
 use std::io::{ErrorKind, Read, Write};
 use std::marker::Model;
@@ -60,7 +60,7 @@ impl<R: Read> Source for RealSource<R> {
 }
 
 // How many bytes the reader gave, or `None` where it failed.
-fn read_some<R: Read>(reader: &mut R, buf: &mut [u8]) -> Option<usize>
+pub(crate) fn read_some<R: Read>(reader: &mut R, buf: &mut [u8]) -> Option<usize>
     ensures { IfSome result (λ n. n ≤ length buf.new) }
 {
     for _ in 0..TRIES {
@@ -124,7 +124,7 @@ impl<W: Write> Sink for RealSink<W> {
 }
 
 // How many bytes the writer took, or `None` where it failed.
-fn write_some<W: Write>(writer: &mut W, piece: &[u8]) -> Option<usize>
+pub(crate) fn write_some<W: Write>(writer: &mut W, piece: &[u8]) -> Option<usize>
     ensures { IfSome result (λ n. n ≤ length piece.now) }
 {
     for _ in 0..TRIES {
@@ -172,6 +172,27 @@ impl<C: time::Clock> Clock for RealClock<C> {
             self.last = moment.min(MAX_MOMENT);
         }
         self.last
+    }
+}
+
+/// The system's clock for each worker.
+#[derive(Clone, Copy)]
+pub struct RealClocks<'a, C> {
+    clock: &'a C,
+}
+
+impl<'a, C: time::Clock + Sync> RealClocks<'a, C> {
+    /// The system's clock, as `&rt`, for each worker.
+    pub fn new(clock: &'a C) -> RealClocks<'a, C> {
+        RealClocks { clock }
+    }
+}
+
+impl<'a, C: time::Clock + Sync> Clocks for RealClocks<'a, C> {
+    type One = RealClock<&'a C>;
+
+    fn one(&self, _worker: u32) -> RealClock<&'a C> {
+        RealClock::new(self.clock)
     }
 }
 

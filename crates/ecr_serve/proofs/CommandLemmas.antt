@@ -6,7 +6,7 @@ use Rattle.ecr_model.specs.declared.names.SiteId.{SiteId}
 use Rattle.ecr_model.specs.declared.outcome.Cut.{Cut}
 use Rattle.ecr_model.specs.declared.outcome.End.{End}
 use Rattle.ecr_model.specs.declared.outcome.End.TheVariants as ends
-use Rattle.ecr_model.specs.sessions.Commands.{IsSession, RunsSession, SaysUsage, fresh_session}
+use Rattle.ecr_model.specs.sessions.Commands.{IsSession, RunsSession, SaysUsage, Written, fresh_session}
 use Rattle.ecr_model.specs.registry.Limits.{standard}
 use Rattle.ecr_model.specs.registry.Scripts.{World, fresh}
 use Rattle.ecr_model.specs.sessions.Sessions.{IsServed, Outside, Serves}
@@ -15,7 +15,7 @@ use Rattle.ecr_desk.specs.Desks.{StillState}
 use Rattle.ecr_session.proofs.StartLemmas.{Serves-nothing}
 
 -- what is said of other words holds of an end that is the same
-pub SaysUsage-same_end : (before after : Outside) (end other : End) → end ≡ other → SaysUsage before after other
+pub SaysUsage-same_end : (before after : Written) (end other : End) → end ≡ other → SaysUsage before after other
     → SaysUsage before after end
 SaysUsage-same_end before after end other e says = subst (SaysUsage before after) (sym e) says
 

@@ -1,2 +1,4 @@
 pub mod WordsLemmas
 pub mod CommandLemmas
+pub mod ServerLemmas
+pub mod ServerWordsLemmas

@@ -17,38 +17,36 @@ use Rattle.ecr_model.specs.names.Sites.{IsSite, site_word}
 use Rattle.ecr_model.specs.sessions.Commands.{IsNoCommand, IsSession, clock_words}
 use Rattle.ecr_model.proofs.lemmas.sessions.CommandLemmas.{same_parts, site_word-unique, site_words-no_clock}
 use Rattle.ecr_serve.specs.declared.words.SessionWords.{SessionWords}
-use Rattle.ecr_serve.specs.Words.{AreSites, IsMoment, IsNew, IsNoMoment}
+use Rattle.ecr_serve.specs.Words.{AreSites, IsMoment, IsNew, IsNoNumber, IsNumber}
 
--- ---- the moment
+-- ---- a number
 
-moment_small : (m : ℕ) → m ≤ MAX_MOMENT → m < 2 ^ 64
-moment_small m h = omega arith
+-- a number's word parses as it
+pub parse-number : {E : Type 0} (most : ℕ) (word : List ℕ) (r : Result ℕ E) (m : ℕ) → most < 2 ^ 64
+    → ParsesUnsigned 64 10 word r → IsNumber most word m → r ≡ Ok m
+parse-number most word r m small p h =
+    let fits : m < 2 ^ 64 = let in_range = h.in_range in omega arith in
+    parse-decimal 64 m word r fits fits h.spelled p
 
--- a moment's word parses as it
-pub parse-moment : {E : Type 0} (word : List ℕ) (r : Result ℕ E) (m : ℕ) → ParsesUnsigned 64 10 word r
-    → IsMoment word m → r ≡ Ok m
-parse-moment word r m p h =
-    parse-decimal 64 m word r (moment_small m h.in_range) (moment_small m h.in_range) h.spelled p
-
--- a word that doesn't parse is no moment
-pub no_moment-Err : {E : Type 0} (word : List ℕ) (r : Result ℕ E) (e : E) → ParsesUnsigned 64 10 word r → r ≡ Err e
-    → IsNoMoment word
-no_moment-Err word r e p is m h = let k = parse-moment word r m p h in cc
+-- a word that doesn't parse is no number
+pub no_number-Err : {E : Type 0} (most : ℕ) (word : List ℕ) (r : Result ℕ E) (e : E) → most < 2 ^ 64
+    → ParsesUnsigned 64 10 word r → r ≡ Err e → IsNoNumber most word
+no_number-Err most word r e small p is m h = let k = parse-number most word r m small p h in cc
 
 -- nor is one that parses as a number that is too great
-pub no_moment-above : {E : Type 0} (word : List ℕ) (r : Result ℕ E) (n : ℕ) → ParsesUnsigned 64 10 word r → r ≡ Ok n
-    → MAX_MOMENT < n → IsNoMoment word
-no_moment-above word r n p is above m h =
-    let k = parse-moment word r m p h in
+pub no_number-above : {E : Type 0} (most : ℕ) (word : List ℕ) (r : Result ℕ E) (n : ℕ) → most < 2 ^ 64
+    → ParsesUnsigned 64 10 word r → r ≡ Ok n → most < n → IsNoNumber most word
+no_number-above most word r n small p is above m h =
+    let k = parse-number most word r m small p h in
     let same : n ≡ m = cc in
-    let most = h.in_range in
+    let in_range = h.in_range in
     omega arith
 
 -- or as one that is written otherwise
-pub no_moment-other : {E : Type 0} (word : List ℕ) (r : Result ℕ E) (n : ℕ) → ParsesUnsigned 64 10 word r → r ≡ Ok n
-    → word ≢ decimal n → IsNoMoment word
-no_moment-other word r n p is other m h =
-    let k = parse-moment word r m p h in
+pub no_number-other : {E : Type 0} (most : ℕ) (word : List ℕ) (r : Result ℕ E) (n : ℕ) → most < 2 ^ 64
+    → ParsesUnsigned 64 10 word r → r ≡ Ok n → word ≢ decimal n → IsNoNumber most word
+no_number-other most word r n small p is other m h =
+    let k = parse-number most word r m small p h in
     let same : n ≡ m = cc in
     other (h.spelled ∙ ap decimal (sym same))
 
@@ -157,7 +155,7 @@ session_moment word words (Some m) sites s =
     )
 
 -- what is no moment makes no command
-pub no_command-moment : (word : List ℕ) (words : List (List ℕ)) → IsNoMoment word
+pub no_command-moment : (word : List ℕ) (words : List (List ℕ)) → IsNoNumber MAX_MOMENT word
     → IsNoCommand (codes "session" ∷ codes "--clock" ∷ word ∷ words)
 no_command-moment word words none fixed sites s =
     let read = session_moment word words fixed sites s in none read.0 read.2

@@ -1,1 +1,3 @@
 pub mod Words
+pub mod Server
+pub mod Serving

@@ -1,6 +1,6 @@
 // A command for one caller.
 ghost use Rattle.std.specs.Prelude.{◌≡◌, ◌<◌, [], ℕ, List, Option, length, map, string_bytes};
-ghost use Rattle.ecr_model.specs.sessions.Commands.{IsNoCommand, IsSession, RunsSession, SaysUsage, exit_status, usage_lines};
+ghost use Rattle.ecr_model.specs.sessions.Commands.{IsNoCommand, IsSession, IsNotRun, RunsSession, SaysUsage, exit_status, usage_lines};
 ghost use Rattle.ecr_model.specs.declared.names.SiteId.{SiteId};
 ghost use Rattle.ecr_http.specs.Sends.{Sends};
 
@@ -15,7 +15,7 @@ use std::alloc::Global;
 /// How a command ended.
 #[derive(Drop)]
 pub struct Ended {
-    /// The exit status: 0 `Whole`, 2 `Usage`, 3 `ReadFault`, 4 `WriteFault`, 5 `Mem`, 7 `Truncated`, 8 `Bad` and
+    /// The exit status: 0 `Whole`, 2 `Usage`, 3 `ReadFault`, 4 `WriteFault`, 5 `Mem`, 6 `AcceptFault`, 7 `Truncated`, 8 `Bad` and
     /// `TooLong`, 9 `Spent`.
     pub status: u8,
     pub end: End,
@@ -41,7 +41,7 @@ pub fn solo<S: Source, K: Sink, C: Clock>(
 
     // The words are told apart exactly.
     ensures usage_only { result.end ≡ End.Usage → IsNoCommand (map string_bytes words.now) }
-    ensures usage { IsNoCommand (map string_bytes words.now) → SaysUsage
+    ensures usage { IsNoCommand (map string_bytes words.now) → IsNotRun
         (record { left = S.left source.old; held = K.held sink.old; told = C.told clock.old; read_faults = S.faults source.old; write_faults = K.faults sink.old })
         (record { left = S.left source.new; held = K.held sink.new; told = C.told clock.new; read_faults = S.faults source.new; write_faults = K.faults sink.new })
         result.end }
@@ -91,10 +91,9 @@ fn serve<S: Source, K: Sink, C: Clock>(
 }
 
 // Writes the lines of usage, and says how the command ends.
-fn say_usage<K: Sink>(sink: &mut K) -> End
-    ensures { (left told : Option (List ℕ)) (faults : ℕ) → SaysUsage
-        (record { left = left; held = K.held sink.old; told = told; read_faults = faults; write_faults = K.faults sink.old })
-        (record { left = left; held = K.held sink.new; told = told; read_faults = faults; write_faults = K.faults sink.new }) result }
+pub(crate) fn say_usage<K: Sink>(sink: &mut K) -> End
+    ensures { SaysUsage (record { held = K.held sink.old; faults = K.faults sink.old })
+        (record { held = K.held sink.new; faults = K.faults sink.new }) result }
 {
     match send(sink, usage_text()) {
         Sent::Done => End::Usage,
@@ -110,7 +109,7 @@ fn usage_text() -> &'static [u8]
       \x20      ecrd serve [--workers N] [--copiers N] ADDRESS SITE...\n"
 }
 
-fn with_status(end: End, cuts: Vec<Cut>) -> Ended
+pub(crate) fn with_status(end: End, cuts: Vec<Cut>) -> Ended
     ensures status { result.status ≡ exit_status end }
     ensures end { result.end ≡ end }
     ensures cuts { result.cuts.items ≡ cuts.items }
@@ -121,6 +120,7 @@ fn with_status(end: End, cuts: Vec<Cut>) -> Ended
         End::ReadFault => 3,
         End::WriteFault => 4,
         End::Mem => 5,
+        End::AcceptFault => 6,
         End::Truncated { .. } => 7,
         End::Bad { .. } => 8,
         End::TooLong { .. } => 8,

@@ -2,11 +2,12 @@
 ghost use Rattle.std.specs.Prelude.{◌≡◌, ◌≤◌, ◌++◌, ◌∷◌, [], ◌↔◌, IfOk, IfSome, MatchOption, Contains, IsTrue, List, Some, codes, map, string_bytes};
 ghost use Rattle.ecr_model.specs.declared.names.SiteId.{SiteId};
 ghost use Rattle.ecr_model.specs.sessions.Commands.{IsNoCommand, IsSession, clock_words};
-ghost use Rattle.ecr_serve.specs.Words.{AreSites, IsMoment, IsNew, IsNoMoment};
+ghost use Rattle.ecr_serve.specs.Words.{AreSites, IsNew, IsNoNumber, IsNumber};
 
 use ecr_base::read_site;
 use ecr_model::{Listed, MAX_MOMENT, Mem, Moment, SiteId};
 use std::alloc::Global;
+use std::convert::AsStr;
 
 /// The most sites of a session (of this registry).
 const MAX_SITES: usize = 64;
@@ -56,7 +57,7 @@ fn read_fixed(alloc: Global, moment: &str, words: &[String]) -> Result<Option<Se
     ensures { let all = codes "session" ∷ codes "--clock" ∷ moment.now ∷ map string_bytes words.now in IfOk result
         (λ o. MatchOption o (IsNoCommand all) (λ s. IsSession all s.fixed s.sites)) }
 {
-    let Some(fixed) = read_moment(alloc, moment)? else {
+    let Some(fixed) = read_number(alloc, moment, MAX_MOMENT)? else {
         return Ok(None);
     };
     read_served(alloc, Some(fixed), words)
@@ -82,10 +83,13 @@ fn read_served(
 }
 
 /// Reads the words of sites. `None` where one is no such word, or stands twice.
-fn read_sites(alloc: Global, words: &[String]) -> Result<Option<Listed<SiteId>>, Mem>
+pub(crate) fn read_sites<S: AsStr>(
+    alloc: Global,
+    words: &[S],
+) -> Result<Option<Listed<SiteId>>, Mem>
     ensures { IfOk result (λ o. MatchOption o
-        ((sites : List SiteId) → ¬ (AreSites (map string_bytes words.now) sites))
-        (AreSites (map string_bytes words.now))) }
+        ((sites : List SiteId) → ¬ (AreSites (map S.text words.now) sites))
+        (AreSites (map S.text words.now))) }
 {
     let mut sites = Vec::new(alloc);
     for (i, word) in words.iter().enumerate() {
@@ -98,10 +102,10 @@ fn read_sites(alloc: Global, words: &[String]) -> Result<Option<Listed<SiteId>>,
 }
 
 /// Reads the word of a site that isn't one of the earlier words.
-fn read_new(alloc: Global, earlier: &[String], word: &str) -> Result<Option<SiteId>, Mem>
+fn read_new<S: AsStr>(alloc: Global, earlier: &[S], word: &str) -> Result<Option<SiteId>, Mem>
     ensures { IfOk result (λ o. MatchOption o
-        ((site : SiteId) → ¬ (IsNew (map string_bytes earlier.now) word.now site))
-        (IsNew (map string_bytes earlier.now) word.now)) }
+        ((site : SiteId) → ¬ (IsNew (map S.text earlier.now) word.now site))
+        (IsNew (map S.text earlier.now) word.now)) }
 {
     if has_word(earlier, word) {
         Ok(None)
@@ -111,32 +115,32 @@ fn read_new(alloc: Global, earlier: &[String], word: &str) -> Result<Option<Site
 }
 
 /// Whether the word is one of the words.
-fn has_word(words: &[String], word: &str) -> bool
-    ensures { IsTrue result ↔ Contains (map string_bytes words.now) word.now }
+fn has_word<S: AsStr>(words: &[S], word: &str) -> bool
+    ensures { IsTrue result ↔ Contains (map S.text words.now) word.now }
 {
     words.iter().any(|other| other.as_str() == word)
 }
 
-/// Reads a moment in decimal, with no leading zero. `None` where the word is no such moment.
-fn read_moment(alloc: Global, word: &str) -> Result<Option<Moment>, Mem>
-    ensures { IfOk result (λ o. MatchOption o (IsNoMoment word.now) (λ m. IsMoment word.now m)) }
+/// Reads a number of at most `most` in decimal, with no leading zero. `None` where the word is no such number.
+pub(crate) fn read_number(alloc: Global, word: &str, most: u64) -> Result<Option<u64>, Mem>
+    ensures { IfOk result (λ o. MatchOption o (IsNoNumber most word.now) (λ n. IsNumber most word.now n)) }
 {
-    let Ok(moment) = word.parse::<u64>() else {
+    let Ok(number) = word.parse::<u64>() else {
         return Ok(None);
     };
-    if moment > MAX_MOMENT {
+    if number > most {
         return Ok(None);
     }
-    let written = moment.to_string(alloc)?;
+    let written = number.to_string(alloc)?;
     if is_same(written.as_str(), word) {
-        Ok(Some(moment))
+        Ok(Some(number))
     } else {
         Ok(None)
     }
 }
 
 /// Whether the texts are the same.
-fn is_same(one: &str, other: &str) -> bool
+pub(crate) fn is_same(one: &str, other: &str) -> bool
     ensures { IsTrue result ↔ (one.now ≡ other.now) }
 {
     one == other

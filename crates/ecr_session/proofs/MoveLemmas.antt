@@ -10,6 +10,7 @@ module _ {W : Type 0} (serves : StandingOf W → Exchange → StandingOf W → T
   pub exchanges_in : (end : End) → ServesBy serves set before after account last end
       → (es : List Exchange) × ServicedBy serves set before after es account last
   exchanges_in ends.Usage s = absurd s
+  exchanges_in ends.AcceptFault s = absurd s
   exchanges_in ends.Mem s = (s.exchanges, s.serviced)
   exchanges_in ends.ReadFault s = (s.1.exchanges, s.1.serviced)
   exchanges_in ends.WriteFault s = (s.1.exchanges, s.1.serviced)
@@ -79,6 +80,7 @@ module _ {W V : Type 0} (serves : StandingOf W → Exchange → StandingOf W →
   pub ServesBy-moves : (end : End) → ServesBy serves set before after account last end
       → ServesBy other to before after account left end
   ServesBy-moves ends.Usage s = s
+  ServesBy-moves ends.AcceptFault s = s
   ServesBy-moves ends.Mem s = AnsweredBy-moves s
   ServesBy-moves ends.ReadFault s = (s.0, CompletedBy-moves ends.ReadFault s.1)
   ServesBy-moves ends.WriteFault s = (s.0, CutOffBy-moves s.1)

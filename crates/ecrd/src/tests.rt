@@ -6,5 +6,6 @@ mod faults;
 mod harness;
 mod http;
 mod limits;
+mod server;
 mod sessions;
 mod words;

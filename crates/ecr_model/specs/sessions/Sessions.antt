@@ -150,6 +150,7 @@ Ends ends.Usage ending size = ⊥
 Ends ends.ReadFault ending size = ending ≡ more
 Ends ends.WriteFault ending size = ⊥
 Ends ends.Mem ending size = ⊥
+Ends ends.AcceptFault ending size = ⊥
 Ends (ends.Truncated at) ending size = ending ≡ truncated at
 Ends (ends.Bad at) ending size = ending ≡ bad_at at
 Ends (ends.TooLong at limit) ending size = (section : Section) × (ending ≡ long_at at section limit)
@@ -272,6 +273,7 @@ module _ {W : Type 0} (serves : StandingOf W → Exchange → StandingOf W → T
   -- a session from its end: the bytes that it read and wrote, its account, and the journals that it left
   abbrev pub ServesBy : SettingOf W → Outside → Outside → Account → W → End → Type 0
   ServesBy set before after account last ends.Usage = ⊥
+  ServesBy set before after account last ends.AcceptFault = ⊥
   ServesBy set before after account last ends.Mem = AnsweredBy set before after account last
   ServesBy set before after account last ends.ReadFault =
       (before.read_faults < after.read_faults) × CompletedBy set before after account last ends.ReadFault

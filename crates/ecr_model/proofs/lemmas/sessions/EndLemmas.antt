@@ -34,6 +34,7 @@ end_is ends.Usage ending size d x = absurd d
 end_is ends.ReadFault ending size d x = absurd d
 end_is ends.WriteFault ending size d x = absurd d
 end_is ends.Mem ending size d x = absurd d
+end_is ends.AcceptFault ending size d x = absurd d
 
 -- the bytes read, the moments and the cuts decide what a session writes and leaves
 pub output_is_determined : OutputIsDetermined
@@ -120,6 +121,7 @@ end_shows ends.Usage ending size d x = absurd d
 end_shows ends.ReadFault ending size d x = absurd d
 end_shows ends.WriteFault ending size d x = absurd d
 end_shows ends.Mem ending size d x = absurd d
+end_shows ends.AcceptFault ending size d x = absurd d
 end_shows ends.Spent ending size d x = absurd d
 
 -- and says nothing of how many bytes were read
@@ -133,6 +135,7 @@ Ends_any_size ends.Usage ending size other d x = absurd d
 Ends_any_size ends.ReadFault ending size other d x = absurd d
 Ends_any_size ends.WriteFault ending size other d x = absurd d
 Ends_any_size ends.Mem ending size other d x = absurd d
+Ends_any_size ends.AcceptFault ending size other d x = absurd d
 Ends_any_size ends.Spent ending size other d x = absurd d
 
 -- the session's reading is the input's

@@ -1,5 +1,4 @@
-use Rattle.std.proofs.Common.{◌∙◌}
-use Rattle.ecr_model.specs.sessions.Sessions.{Outside}
+use Rattle.std.proofs.Common.{◌∙◌, refl}
 use Rattle.ecr_serve.proofs.CommandLemmas.{RunsSession-nothing, RunsSession-same_words, SaysUsage-same_end}
 use Rattle.ecr_serve.proofs.command.solo.Goals as goal
 
@@ -8,26 +7,13 @@ returns-in-Err-clause-session g c = λ fixed sites words.
     RunsSession-nothing sites fixed _ _ _ (c.with_status.ensures.cuts ∙ c.new.ensures.items) c.with_status.ensures.end
 
 pub returns-in-Ok-None-clause-usage : goal.returns-in-Ok-None-clause-usage
-returns-in-Ok-None-clause-usage g c = λ other.
-    let left = g.S.Source.left c.args.source.now in
-    let told = g.C.Clock.told c.args.clock.now in
-    let faults = g.S.Source.faults c.args.source.now in
-    let before : Outside = record {
-      left = left;
-      held = g.K.Sink.held c.args.sink.now;
-      told = told;
-      read_faults = faults;
-      write_faults = g.K.Sink.faults c.args.sink.now;
-    } in
-    let after : Outside = record {
-      left = left;
-      held = g.K.Sink.held c.say_usage.new.sink;
-      told = told;
-      read_faults = faults;
-      write_faults = g.K.Sink.faults c.say_usage.new.sink;
-    } in
-    SaysUsage-same_end before after c.with_status-in-Ok-None.result.end c.say_usage.result
-    c.with_status-in-Ok-None.ensures.end (c.say_usage.ensures left told faults)
+returns-in-Ok-None-clause-usage g c = λ other. record {
+  idle = record { left = refl; told = refl; read_faults = refl };
+  said = SaysUsage-same_end
+      (record { held = g.K.Sink.held c.args.sink.now; faults = g.K.Sink.faults c.args.sink.now })
+      (record { held = g.K.Sink.held c.say_usage.new.sink; faults = g.K.Sink.faults c.say_usage.new.sink }) c.with_status-in-Ok-None.result.end c.say_usage.result
+      c.with_status-in-Ok-None.ensures.end c.say_usage.ensures;
+}
 
 pub returns-in-Ok-Some-clause-session : goal.returns-in-Ok-Some-clause-session
 returns-in-Ok-Some-clause-session g c = λ fixed sites words.

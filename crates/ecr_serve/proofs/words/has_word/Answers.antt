@@ -1,4 +1,4 @@
-use Rattle.std.proofs.Common.{◌≡◌, rules, tests, string_bytes}
+use Rattle.std.proofs.Common.{◌≡◌, rules, tests}
 use Rattle.std.specs.List.{list_any}
 use Rattle.std.specs.Str.{bytes_eq}
 use Rattle.std.proofs.lemmas.Iterator.{YieldsList-from_slice}
@@ -7,10 +7,10 @@ use Rattle.ecr_serve.proofs.WordsLemmas.{Contains-list_any}
 use Rattle.ecr_serve.proofs.words.has_word.Goals as goal
 
 pub returns : goal.returns
-returns c =
+returns g c =
     let words = c.args.words.now in
     let word = c.args.word.now in
-    let e : c.any.result ≡ list_any (λ x. bytes_eq (string_bytes x) word) words =
-    any_from_yields_List (λ x. bytes_eq (string_bytes x) word) _ _ c.any.result c.any.ensures.ran
+    let e : c.any.result ≡ list_any (λ x. bytes_eq (g.S.AsStr.text x) word) words =
+    any_from_yields_List (λ x. bytes_eq (g.S.AsStr.text x) word) _ _ c.any.result c.any.ensures.ran
     (YieldsList-from_slice words cc) (λ x b q k. search (rules, tests)) in
-    rw e (Contains-list_any string_bytes words word)
+    rw e (Contains-list_any g.S.AsStr.text words word)
