@@ -56,7 +56,8 @@ fn repository_body(
     mutability: Mutability,
 ) -> Result<Vec<u8>, Mem>
     ensures { IfOk result (λ b. b.items
-        ≡ compact_text (object (member (codes "repository") (repository_data (key_asked (meaning asked.now)) created mutability) no_members))) }
+        ≡ compact_text (object (member (codes "repository")
+        (repository_data (key_asked (meaning asked.now)) created mutability) no_members))) }
 {
     let mut out = begin(alloc, BODY_ROOM + ROW_ROOM)?;
     out.begin_object()?;
@@ -81,7 +82,8 @@ fn rows_body(
     next: Option<u64>,
 ) -> Result<Vec<u8>, Mem>
     ensures { IfOk result (λ b. b.items
-        ≡ compact_text (object (with_token next (member (codes "repositories") (array (rows_data (site_asked (meaning asked.now)) rows.now)) no_members)))) }
+        ≡ compact_text (object (with_token next
+        (member (codes "repositories") (array (rows_data (site_asked (meaning asked.now)) rows.now)) no_members)))) }
 {
     let mut out = begin(alloc, room_of(rows))?;
     out.begin_object()?;
@@ -98,7 +100,8 @@ fn mutability_body(alloc: Global, asked: &Asked, mutability: Mutability) -> Resu
     ensures { IfOk result (λ b. b.items ≡ compact_text (object
         (member (codes "imageTagMutability") (string (mutability_text mutability))
         (member (codes "registryId") (string (utf8_or_empty (key_asked (meaning asked.now)).site.account))
-        (member (codes "repositoryName") (string (utf8_or_empty (key_asked (meaning asked.now)).name.text)) no_members))))) }
+        (member (codes "repositoryName")
+        (string (utf8_or_empty (key_asked (meaning asked.now)).name.text)) no_members))))) }
 {
     let account = utf8_or_empty(site_asked(asked).account.as_bytes());
     object_body(
@@ -215,7 +218,8 @@ fn write_repository(
     mutability: Mutability,
 ) -> Result<(), Mem>
     ensures ok { OnOk result (out.new.tokens
-        ≡ out.old.tokens ++ data_tokens (repository_data (record { site = site.now; name = record { text = name.now } }) created mutability)) }
+        ≡ out.old.tokens ++ data_tokens
+        (repository_data (record { site = site.now; name = record { text = name.now } }) created mutability)) }
     ensures before { out.new.before ≡ out.old.before }
 {
     let arn = write_arn_at(alloc, site, name)?;

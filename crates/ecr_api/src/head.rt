@@ -9,8 +9,8 @@ use std::alloc::Global;
 /// Room for each head, in bytes.
 const HEAD_ROOM: usize = 128;
 
-/// A reply of the JSON API up to its body of so many bytes; it says `close` where the session closes after it. There is room
-/// for `room` bytes more behind it.
+/// A reply of the JSON API up to its body of so many bytes; it says `close` where the session closes after it. There is
+/// room for `room` bytes more behind it.
 #[tactic(auto, unfolding(ecr_model::specs::http::Replies::json_head))]
 pub(crate) fn write_json_head(
     alloc: Global,

@@ -1,4 +1,5 @@
-//! The JSON API's front: what the body of a request asks for, and replies as bytes (Amazon ECR API Reference; RFC 8259).
+//! The JSON API's front: what the body of a request asks for, and replies as bytes (Amazon ECR API Reference; RFC
+//! 8259).
 //!
 //! What may stand in a body is a table, a row for each member of each action. Nothing is kept here, and nothing is
 //! decided of a repository.

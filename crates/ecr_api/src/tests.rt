@@ -352,9 +352,19 @@ fn told_of(alloc: Global, target: &[u8], body: &[u8]) -> Result<String, Fail> {
         Ok(asked) => words_of(alloc, &asked),
         Err(ApiRefusal::Refused(refusal)) => {
             let reply: HttpReply = write_refused(alloc, &refusal, false)?;
-            text_of(alloc, &reply.tail)
+            body_of(alloc, &reply)
         }
         Err(ApiRefusal::Mem) => Err(Fail::new("no memory")),
+    }
+}
+
+/// What stands behind the empty line of a reply.
+fn body_of(alloc: Global, reply: &HttpReply) -> Result<String, Fail> {
+    let mut text = text_of(alloc, &reply.head)?;
+    text.push_str(text_of(alloc, &reply.tail)?.as_str())?;
+    match text.as_str().split_once("\r\n\r\n") {
+        Some((_, body)) => Ok(String::from_str(alloc, body)?),
+        None => Err(Fail::new("no empty line")),
     }
 }
 

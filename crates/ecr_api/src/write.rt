@@ -16,8 +16,8 @@ use std::alloc::Global;
 /// The longest body, in bytes, that is written in one piece with its head.
 const ONE_WRITE: usize = 65_536;
 
-/// The reply to what was asked, with the content that it names, in its order (`blobs`); it says `close` where the session
-/// closes after it. No reply shows content yet.
+/// The reply to what was asked, with the content that it names, in its order (`blobs`); it says `close` where the
+/// session closes after it. No reply shows content yet.
 ///
 /// The body is written once, into room that fits short names.
 #[tactic(auto, unfolding(ecr_model::specs::requests::Rendered::json))]
@@ -43,8 +43,8 @@ pub fn write_refused(alloc: Global, refusal: &Refusal, close: bool) -> Result<Ht
     with_head(alloc, close, "400 Bad Request", body)
 }
 
-/// A reply of the JSON API with that body: one piece where the body is small, so that it goes out in one write with its head,
-/// and else two, so that it isn't copied.
+/// A reply of the JSON API with that body: one piece where the body is small, so that it goes out in one write with its
+/// head, and else two, so that it isn't copied.
 fn with_head(alloc: Global, close: bool, status: &str, body: Vec<u8>) -> Result<HttpReply, Mem>
     ensures { IfOk result (λ r. message_bytes r ≡ with_head close status.now body.items) }
 {

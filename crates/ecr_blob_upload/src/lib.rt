@@ -1,5 +1,5 @@
-//! Content that is shared and never changes: [`Blob`]s, which are named by their digest, and [`Bytes`], which have none.
-//! With it goes what a call brings and comes to, [`Load`] and [`Outcome`].
+//! Content that is shared and never changes: [`Blob`]s, which are named by their digest, and [`Bytes`], which have
+//! none. With it goes what a call brings and comes to, [`Load`] and [`Outcome`].
 //!
 //! What the bytes mean is not asked here, and nothing is stored here.
 #![tactic(auto)]

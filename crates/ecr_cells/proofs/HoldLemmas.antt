@@ -182,7 +182,8 @@ pub Held-cell : (before mid after : DeskState) (key : RepoKey) (told : Done) (fi
 unfolding hold_script first_turn with_view
 Held-cell before mid after key told first place many known one other =
     let seen = idled-ran before mid (Directory key.site) key.name (λ t. t) (told_of told) first many one in
-    let idle = idled-ran mid after (Repository key) key.name (λ t. tt) tt place (ap is_none one.gates_stay ∙ many) other in
+    let idle = idled-ran mid after (Repository key) key.name (λ t. tt) tt place
+    (ap is_none one.gates_stay ∙ many) other in
     record {
       earlier = first ∷ [];
       ran = Ran-then before mid after (first_turn key Describe) (then_idle key) (told_of told) tt (first ∷ [])

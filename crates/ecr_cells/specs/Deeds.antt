@@ -1,4 +1,5 @@
--- The turns of cells as the program makes them: a question with its content, and its answer (docs/DECISIONS.md, "Scripts").
+-- The turns of cells as the program makes them: a question with its content, and its answer (docs/DECISIONS.md,
+-- "Scripts").
 use Rattle.std.specs.Prelude.{Bool, true, false, Option, None, Some}
 use Rattle.ecr_blob_upload.specs.Loads.{FitsCall, given}
 use Rattle.ecr_model.specs.declared.registry.directory.Registered.{Registered as Result}

@@ -89,7 +89,8 @@ pub record IsQuiet (before after : Site) : Type 0 where
   pub same : IsSame before.directory after.directory
   pub lines : (cell : CellKey) → lines_of_cell after cell ≡ lines_of_cell before cell
 
--- the next turn in a cell of the site, by caller 0: its answer, its place, and its entry in the journal of that cell alone
+-- the next turn in a cell of the site, by caller 0: its answer, its place, and its entry in the journal of that cell
+-- alone
 pub record IsTurn (before after : Site) (cell : CellKey) (ask : Ask) (told : Told) (place : Place) : Type 0 where
   pub same : IsSame before.directory after.directory
   pub told_is : told ≡ (turn_after (realm_of before.directory) cell (lines_of_cell before cell) ask).told

@@ -16,8 +16,8 @@ turn_in_directory d ticket ask =
 abbrev pub turn_in_repository : State → ℕ → Ask → Turned
 turn_in_repository s ticket ask = repository_turn s.key s.limits s.journal ticket None ask
 
--- the turn of that ticket was made in the directory under that caller's number: its answer is the turn's, and says whether
--- there is an entry, which is the journal's last
+-- the turn of that ticket was made in the directory under that caller's number: its answer is the turn's, and says
+-- whether there is an entry, which is the journal's last
 pub record IsDirectoryTurn (before after : SiteJournal) (ticket caller : ℕ) (ask : Ask) (done : Done) : Type 0 where
   pub told_is : told_of done ≡ (turn_in_directory before ticket ask).told
   pub changes_is : changes done ≡ is_some (turn_in_directory before ticket ask).entry

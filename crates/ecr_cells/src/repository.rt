@@ -12,8 +12,8 @@ use std::alloc::Global;
 use std::collections::BTreeMap;
 use std::marker::Model;
 
-/// A repository, in memory of its own: so a map of them has small nodes, and moves no more than a pointer. Contracts see
-/// the repository's state.
+/// A repository, in memory of its own: so a map of them has small nodes, and moves no more than a pointer. Contracts
+/// see the repository's state.
 #[derive(Drop)]
 pub(crate) struct RepositoryCell {
     state: Box<RepoState>,

@@ -10,8 +10,9 @@ use Rattle.ecr_model.specs.registry.Views.{Views, Terms, PlacedTurn, journals_of
 abbrev pub Gates : Type 0
 Gates = SiteId → Option Gate
 
--- a desk as its caller sees it: the sites and limits, which desk it is, or none where the caller is alone, its views of the
--- cells, the parts of uploads in progress, which only a caller that is alone sees, and how many entries the caller has added
+-- a desk as its caller sees it: the sites and limits, which desk it is, or none where the caller is alone, its views of
+-- the cells, the parts of uploads in progress, which only a caller that is alone sees, and how many entries the caller
+-- has added
 pub record DeskState : Type 0 where
   pub realm : Realm
   pub gates : Option Gates
@@ -52,8 +53,8 @@ seen_with desk pass = record {
 
 -- ---- a caller that is alone
 
--- the desk of a caller that is alone: the sites and limits, the journals of all cells with the parts of uploads, and how many
--- entries were added since the desk was made
+-- the desk of a caller that is alone: the sites and limits, the journals of all cells with the parts of uploads, and
+-- how many entries were added since the desk was made
 pub record StillState : Type 0 where
   pub realm : Realm
   pub world : World

@@ -14,8 +14,9 @@ use std::alloc::Global;
 
 /// A registry as one caller uses it, which is alone or one among many.
 ///
-/// Contracts see what the caller has seen of the cells, and how many entries it has added ([`AnyDesk::made`]). A call makes
-/// the turns of its script, in their order. One that finds no memory leaves the turns that it made, each of them whole.
+/// Contracts see what the caller has seen of the cells, and how many entries it has added ([`AnyDesk::made`]). A call
+/// makes the turns of its script, in their order. One that finds no memory leaves the turns that it made, each of them
+/// whole.
 pub trait AnyDesk {
     /// The sites and limits, which desk it is, the views of the cells, and the number of entries that were added.
     ghost seen: { Self → DeskState };
@@ -29,8 +30,8 @@ pub trait AnyDesk {
 
     /// A call on a repository of a served site, with the content that comes with it.
     ///
-    /// Its site's directory has the first turn, which registers the name where the call is CreateRepository. Where the name
-    /// is registered, the repository has the second. Without memory at most the name was registered.
+    /// Its site's directory has the first turn, which registers the name where the call is CreateRepository. Where the
+    /// name is registered, the repository has the second. Without memory at most the name was registered.
     fn call(
         &mut self,
         alloc: Global,

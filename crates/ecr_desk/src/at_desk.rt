@@ -9,7 +9,8 @@ use ecr_model::{Call, Mem, Moment, RepoKey, SiteCall, SiteId};
 use std::alloc::Global;
 use std::sync::Wait;
 
-/// A caller at a desk of many, with its pass: so one caller's work is written once, for desks of one caller and of many.
+/// A caller at a desk of many, with its pass: so one caller's work is written once, for desks of one caller and of
+/// many.
 pub struct AtDesk<'a, W: Wait, D: Desk> {
     rt: &'a W,
     desk: &'a D,

@@ -19,8 +19,8 @@ pub trait Seen {
 
 /// A registry that many callers use at once, each with a pass of its own.
 ///
-/// Each turn of a call waits for those before it in its cell. Contracts see what the pass has seen before and afterwards;
-/// what others do in between is among it. A call changes the views of the cells of its turns alone.
+/// Each turn of a call waits for those before it in its cell. Contracts see what the pass has seen before and
+/// afterwards; what others do in between is among it. A call changes the views of the cells of its turns alone.
 pub trait Desk {
     /// The right to use it.
     type Pass: Seen;
@@ -41,7 +41,8 @@ pub trait Desk {
         requires of { IsOf (shared self.now) (Self.Pass.seen pass.old) }
         ensures of { IsOf (shared self.now) (Self.Pass.seen pass.new) }
         ensures ran { IfOk result
-            (λ a. Ran (seen_with (shared self.now) (Self.Pass.seen pass.old)) (seen_with (shared self.now) (Self.Pass.seen pass.new))
+            (λ a. Ran (seen_with (shared self.now) (Self.Pass.seen pass.old))
+            (seen_with (shared self.now) (Self.Pass.seen pass.new))
             (site_script site.now call) a.reply (a.place ∷ [])) }
         ensures stopped { OnErr result
             (StoppedWithin 0 (seen_with (shared self.now) (Self.Pass.seen pass.old))
@@ -49,8 +50,8 @@ pub trait Desk {
 
     /// A call on a repository of a served site, with the content that comes with it.
     ///
-    /// Its site's directory has the first turn, which registers the name where the call is CreateRepository. Where the name
-    /// is registered, the repository has the second. Without memory at most the first was made.
+    /// Its site's directory has the first turn, which registers the name where the call is CreateRepository. Where the
+    /// name is registered, the repository has the second. Without memory at most the first was made.
     fn call<W: Wait>(
         &self,
         rt: &W,
@@ -66,8 +67,10 @@ pub trait Desk {
         requires of { IsOf (shared self.now) (Self.Pass.seen pass.old) }
         ensures of { IsOf (shared self.now) (Self.Pass.seen pass.new) }
         ensures ran { IfOk result
-            (λ a. Ran (seen_with (shared self.now) (Self.Pass.seen pass.old)) (seen_with (shared self.now) (Self.Pass.seen pass.new))
-            (call_script key.now call (given load) moment) (record { reply = a.reply; sealed = a.sealed }) a.places.items) }
+            (λ a. Ran (seen_with (shared self.now) (Self.Pass.seen pass.old))
+            (seen_with (shared self.now) (Self.Pass.seen pass.new))
+            (call_script key.now call (given load) moment)
+            (record { reply = a.reply; sealed = a.sealed }) a.places.items) }
         ensures stopped { OnErr result
             (StoppedWithin 1 (seen_with (shared self.now) (Self.Pass.seen pass.old))
             (seen_with (shared self.now) (Self.Pass.seen pass.new)) (call_script key.now call (given load) moment)) }

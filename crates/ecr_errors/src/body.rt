@@ -10,11 +10,12 @@ use ecr_json::Builder;
 use ecr_model::{Mem, Refusal, RepoKey};
 use std::alloc::Global;
 
-/// The body of a refusal: a JSON object without spaces, its members in byte order of their names. `upload` is the number
-/// of the upload that the call was one on, counted from 1 in its repository's name.
+/// The body of a refusal: a JSON object without spaces, its members in byte order of their names. `upload` is the
+/// number of the upload that the call was one on, counted from 1 in its repository's name.
 ///
-/// It has `__type` and `message`. That of a refused part names the repository and the upload too, where both are given, and
-/// the last byte that was received, where one was (Amazon ECR API Reference, `UploadLayerPart`). Bytes count from 0.
+/// It has `__type` and `message`. That of a refused part names the repository and the upload too, where both are given,
+/// and the last byte that was received, where one was (Amazon ECR API Reference, `UploadLayerPart`). Bytes count from
+/// 0.
 #[tactic(auto, unfolding(ecr_model::specs::requests::Refusals::refusal_body))]
 pub fn refusal_body(
     alloc: Global,

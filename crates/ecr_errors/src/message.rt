@@ -1,5 +1,5 @@
-// Types and messages of refusals (Amazon ECR API Reference, "Common Errors" and the actions' errors). The messages are of
-// this registry.
+// Types and messages of refusals (Amazon ECR API Reference, "Common Errors" and the actions' errors). The messages are
+// of this registry.
 ghost use Rattle.std.specs.Prelude.{◌≡◌, IfOk, string_bytes};
 ghost use Rattle.ecr_model.specs.requests.Refusals.{message_text, type_text};
 

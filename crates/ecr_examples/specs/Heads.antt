@@ -1,4 +1,5 @@
--- The heads of requests at examples (RFC 9112, sections 2.2, 3.2, 5, 6 and 9.6; RFC 9110, sections 5.1, 5.6.1 and 10.1.1).
+-- The heads of requests at examples (RFC 9112, sections 2.2, 3.2, 5, 6 and 9.6; RFC 9110, sections 5.1, 5.6.1 and
+-- 10.1.1).
 use Rattle.std.specs.Prelude.{◌≡◌, ℕ, Bool, true, false, List, [], ◌∷◌, ◌++◌, map, None, Some, codes}
 use Rattle.httparse.specs.Grammar as grammar
 use Rattle.ecr_model.specs.declared.http.Framing.TheVariants.{Sized, Chunked}
@@ -32,7 +33,8 @@ fields_of name values = map (field name) values
 -- a field's name keeps its case, and is compared without it; space and tab around a value are no part of it
 pub record FieldsAreFound : Type 0 where
   pub line_is : field_of (line (codes "Accept") (9 ∷ 32 ∷ codes "a b" ++ 9 ∷ [])) ≡ field (codes "Accept") (codes "a b")
-  pub place : field_at (codes "Host: a") (record { name = record { start = 0; end = 4 }; value = record { start = 6; end = 7 } })
+  pub place : field_at (codes "Host: a")
+      (record { name = record { start = 0; end = 4 }; value = record { start = 6; end = 7 } })
       ≡ field (codes "Host") (codes "a")
   pub kept : head_of (record {
     blank = [];

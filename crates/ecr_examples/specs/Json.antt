@@ -1,5 +1,6 @@
--- JSON values and what is kept of them, tags that prefixes and patterns match, and sets of prefixes, at examples (RFC 8259,
--- sections 4 and 6; RFC 4648, section 10; Amazon ECR User Guide, lifecycle policies, `tagPrefixList` and `tagPatternList`).
+-- JSON values and what is kept of them, tags that prefixes and patterns match, and sets of prefixes, at examples (RFC
+-- 8259, sections 4 and 6; RFC 4648, section 10; Amazon ECR User Guide, lifecycle policies, `tagPrefixList` and
+-- `tagPatternList`).
 use Rattle.std.specs.Prelude.{◌≡◌, ℕ, pos, negsuc, true, false, List, [], ◌∷◌, map, None, Some, codes}
 use Rattle.serde_json.specs.Data.{Data, null, boolean, number, unsigned, negative, string, array, object, Items, no_items, item, member, no_members}
 use Rattle.serde_json.specs.Find.{as_str}

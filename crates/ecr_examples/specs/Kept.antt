@@ -1,5 +1,5 @@
--- Journals that grow, and what is kept of repositories and directories, at examples. Of this registry. Tickets count from 0,
--- moments are in seconds.
+-- Journals that grow, and what is kept of repositories and directories, at examples. Of this registry. Tickets count
+-- from 0, moments are in seconds.
 use Rattle.std.specs.Prelude.{◌≡◌, ℕ, true, false, List, [], ◌∷◌, map, None, Some, codes}
 use Rattle.ecr_model.specs.declared.registry.directory.Registered.TheVariants.{New, Known, Full}
 use Rattle.ecr_model.specs.declared.registry.journal.Line.{Line}
@@ -63,7 +63,8 @@ pub record StatesAreKept : Type 0 where
   pub now : repository_now (record { key = app; limits = standard; journal = line 0 3 ∷ [] })
       ≡ record first_state { present = Some (record { created = 70; mutability = Mutable }) }
   pub turn : unsealed_turn 3 70 [] ≡ record { ticket = 3; moment = 70; destinations = []; sealed = None }
-  pub outcome : call_outcome (record { key = app; limits = standard; journal = [] }) (unsealed_turn 3 70 []) (Create Mutable)
+  pub outcome : call_outcome (record { key = app; limits = standard; journal = [] }) (unsealed_turn 3 70 [])
+      (Create Mutable)
       ≡ becomes (repository_of (Some (record { created = 70; mutability = Mutable }))) (Created 70 Mutable)
   pub reply : reply_to (record {
     key = app;
@@ -72,15 +73,19 @@ pub record StatesAreKept : Type 0 where
         ∷ [];
   }) (unsealed_turn 4 71 []) Describe
       ≡ Described (record { name = app.name; created = 70; mutability = Mutable } ∷ []) None
-  pub changes : changes_repository (record { key = app; limits = standard; journal = [] }) (unsealed_turn 3 70 []) (Create Mutable)
+  pub changes : changes_repository (record { key = app; limits = standard; journal = [] }) (unsealed_turn 3 70 [])
+      (Create Mutable)
       ≡ true
-  pub unchanged : changes_repository (record { key = app; limits = standard; journal = [] }) (unsealed_turn 3 70 []) (Delete true)
+  pub unchanged : changes_repository (record { key = app; limits = standard; journal = [] }) (unsealed_turn 3 70 [])
+      (Delete true)
       ≡ false
   pub entry : with_entry (record { key = app; limits = standard; journal = [] }) (line 0 3)
       ≡ record { key = app; limits = standard; journal = line 0 3 ∷ [] }
-  pub after_call_is : after_call (record { key = app; limits = standard; journal = [] }) 2 (unsealed_turn 3 70 []) (Create Mutable)
+  pub after_call_is : after_call (record { key = app; limits = standard; journal = [] }) 2 (unsealed_turn 3 70 [])
+      (Create Mutable)
       ≡ record { key = app; limits = standard; journal = line 2 3 ∷ [] }
-  pub after_none : after_call (record { key = app; limits = standard; journal = [] }) 2 (unsealed_turn 3 70 []) (Delete true)
+  pub after_none : after_call (record { key = app; limits = standard; journal = [] }) 2 (unsealed_turn 3 70 [])
+      (Delete true)
       ≡ record { key = app; limits = standard; journal = [] }
 
 -- the calls of things in memory: their sizes, the last one again at the end, and which of them fail

@@ -1,5 +1,5 @@
--- The reading of manifests at examples (OCI Image 1.1, image manifest, image index, descriptor; Docker Image Manifest Version
--- 2, Schema 2). Sizes are in bytes. Causes are of this registry: docs/PROTOCOL.md.
+-- The reading of manifests at examples (OCI Image 1.1, image manifest, image index, descriptor; Docker Image Manifest
+-- Version 2, Schema 2). Sizes are in bytes. Causes are of this registry: docs/PROTOCOL.md.
 use Rattle.std.specs.Prelude.{◌≡◌, ℕ, true, false, List, [], ◌∷◌, ◌++◌, map, replicate, Option, None, Some, Ok, Err, codes}
 use Rattle.serde_json.specs.Data.{Data, null, number, unsigned, string, array, object, Items, no_items, item, member, no_members}
 use Rattle.ecr_model.specs.declared.names.Digest.{Digest}
@@ -85,7 +85,8 @@ layers = item (descriptor layer_type abc 3) (item (descriptor layer_type nought 
 
 abbrev image : Data
 image = object (member (codes "config") (descriptor foreign_type nought 7) (member (codes "layers") (array layers)
-    (member (codes "mediaType") (string oci_manifest) (member (codes "schemaVersion") (number (unsigned 2)) no_members))))
+    (member (codes "mediaType") (string oci_manifest)
+    (member (codes "schemaVersion") (number (unsigned 2)) no_members))))
 
 -- a list of two manifests, and the first once more
 abbrev entries : Items
@@ -93,7 +94,8 @@ entries = item (descriptor oci_manifest nought 5) (item (descriptor docker_manif
     (item (descriptor oci_manifest nought 5) no_items))
 
 abbrev index : Data
-index = object (member (codes "manifests") (array entries) (member (codes "schemaVersion") (number (unsigned 2)) no_members))
+index = object (member (codes "manifests") (array entries)
+    (member (codes "schemaVersion") (number (unsigned 2)) no_members))
 
 abbrev config : Descriptor
 config = layer zeros 7
@@ -190,6 +192,7 @@ pub record FactsAreTold : Type 0 where
   pub index_is : manifest_reading (Some oci_index) index ≡ Ok index_facts
   pub no_json : of_document None None ≡ Err (fault 1 0)
   pub json : of_document None (Some image) ≡ Ok image_facts
-  pub bytes : facts (codes "{\"schemaVersion\":2,\"manifests\":[]}") (Some (codes " application/vnd.oci.image.index.v1+json;a"))
+  pub bytes : facts (codes "{\"schemaVersion\":2,\"manifests\":[]}")
+      (Some (codes " application/vnd.oci.image.index.v1+json;a"))
       ≡ Ok (record { list = true; media = oci_index; required = []; children = []; size = 0 })
   pub no_bytes : facts [] None ≡ Err (fault 1 0)

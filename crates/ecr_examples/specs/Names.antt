@@ -1,5 +1,5 @@
--- What names something, at examples: OCI Distribution 1.1, "Pulling manifests"; OCI Image 1.1, descriptor, "Digests"; Amazon
--- ECR API Reference, `CreateRepository` and `Repository`. Limits are of this registry.
+-- What names something, at examples: OCI Distribution 1.1, "Pulling manifests"; OCI Image 1.1, descriptor, "Digests";
+-- Amazon ECR API Reference, `CreateRepository` and `Repository`. Limits are of this registry.
 use Rattle.std.specs.Prelude.{◌≡◌, ℕ, true, false, List, [], ◌∷◌, ◌++◌, map, replicate, None, Some, Ok, codes}
 use Rattle.std.specs.declared.cmp.Ordering.TheVariants.{Less, Equal, Greater}
 use Rattle.ecr_model.specs.declared.names.Digest.{Digest}

@@ -1,5 +1,5 @@
--- The reading of lifecycle policies at examples (Amazon ECR User Guide, lifecycle policies). Rules count from 1 in the order
--- of their list, and rule 0 stands for the text. Causes are of this registry: docs/PROTOCOL.md.
+-- The reading of lifecycle policies at examples (Amazon ECR User Guide, lifecycle policies). Rules count from 1 in the
+-- order of their list, and rule 0 stands for the text. Causes are of this registry: docs/PROTOCOL.md.
 use Rattle.std.specs.Prelude.{◌≡◌, ℕ, zero, suc, true, false, List, [], ◌∷◌, ◌++◌, map, replicate, Option, None, Some, Ok, Err, codes, unwrap_or}
 use Rattle.serde_json.specs.Data.{Data, null, number, unsigned, string, array, object, Items, no_items, item, member, no_members}
 use Rattle.ecr_model.specs.declared.registry.lifecycle.Choose.{Choose}

@@ -1,5 +1,5 @@
--- The bodies of refusals at examples (Amazon ECR API Reference, "Common Errors" and the actions' errors). Messages are of
--- this registry: docs/PROTOCOL.md, "Refusals".
+-- The bodies of refusals at examples (Amazon ECR API Reference, "Common Errors" and the actions' errors). Messages are
+-- of this registry: docs/PROTOCOL.md, "Refusals".
 use Rattle.std.specs.Prelude.{◌≡◌, ℕ, List, [], ◌∷◌, ◌++◌, map, None, Some, codes}
 use Rattle.serde_json.specs.Data.{number, unsigned, string, object, member, no_members}
 use Rattle.ecr_model.specs.declared.requests.refusal.ConfigurationFault.TheVariants as faults
@@ -98,7 +98,8 @@ pub record RefusalsAreSaid : Type 0 where
 -- the parameter's refusal names no repository; a refused part names its upload where that is known
 pub record RefusedPartsAreSaid : Type 0 where
   pub plain : plain_data EmptyUpload
-      ≡ object (member (codes "__type") (string (codes "EmptyUploadException")) (member (codes "message") (string (codes "empty upload")) no_members))
+      ≡ object (member (codes "__type") (string (codes "EmptyUploadException"))
+      (member (codes "message") (string (codes "empty upload")) no_members))
   pub last : with_last_byte 5 no_members ≡ member (codes "lastValidByteReceived") (number (unsigned 4)) no_members
   pub no_last : with_last_byte 0 no_members ≡ no_members
   pub part : refusal_data (InvalidLayerPart 5) (Some app) (Some 1) ≡ part_data (InvalidLayerPart 5) 5 app 1

@@ -1,5 +1,5 @@
--- The sites that hosts name, and replies as bytes, at examples (RFC 9110, sections 7.2 and 15; RFC 9112, sections 4 and 6;
--- RFC 6585, section 5; Amazon ECR API Reference). Which hosts name a site is of this registry.
+-- The sites that hosts name, and replies as bytes, at examples (RFC 9110, sections 7.2 and 15; RFC 9112, sections 4 and
+-- 6; RFC 6585, section 5; Amazon ECR API Reference). Which hosts name a site is of this registry.
 use Rattle.std.specs.Prelude.{◌≡◌, ℕ, true, false, List, [], ◌∷◌, ◌++◌, map, None, Some, codes}
 use Rattle.ecr_model.specs.declared.http.Section.TheVariants as sections
 use Rattle.ecr_model.specs.declared.names.SiteId.{SiteId}

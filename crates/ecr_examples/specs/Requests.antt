@@ -1,5 +1,5 @@
--- The members of bodies and the calls that they make, at examples (RFC 8259; Amazon ECR API Reference, the actions' request
--- parameters). That null counts as absent is of this registry.
+-- The members of bodies and the calls that they make, at examples (RFC 8259; Amazon ECR API Reference, the actions'
+-- request parameters). That null counts as absent is of this registry.
 use Rattle.std.specs.Prelude.{◌≡◌, ℕ, ◌^◌, pos, negsuc, true, false, List, [], ◌∷◌, map, replicate, None, Some, codes}
 use Rattle.serde_json.specs.Data.{Data, null, boolean, number, unsigned, negative, string, array, object, Items, no_items, item, member, no_members}
 use Rattle.ecr_model.specs.declared.names.Name.{Name}
@@ -41,7 +41,8 @@ pair a b = item a (item b no_items)
 
 -- `{"a": null, "b": "x", "c": 7}`
 abbrev body : Data
-body = object (member (codes "a") null (member (codes "b") (string (codes "x")) (member (codes "c") (count 7) no_members)))
+body = object (member (codes "a") null
+    (member (codes "b") (string (codes "x")) (member (codes "c") (count 7) no_members)))
 
 -- a value is read as the JSON type of its domain; null is absent, and a number with a fraction isn't whole
 pub record ValuesAreTyped : Type 0 where

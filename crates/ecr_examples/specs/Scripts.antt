@@ -85,7 +85,10 @@ pub record TurnsAreMade : Type 0 where
   pub again : registers (name (codes "a1")) Known ≡ record { told = registered Known; entry = None }
   pub full : registers (name (codes "a1")) (Full 2 2) ≡ record { told = registered (Full 2 2); entry = None }
   pub acting : acts (record { reply = site_replies.Names [] false; act = Some (Register app.name) })
-      ≡ record { told = listed (site_replies.Names [] false); entry = Some (record { moment = 0; act = Register app.name }) }
+      ≡ record {
+        told = listed (site_replies.Names [] false);
+        entry = Some (record { moment = 0; act = Register app.name });
+      }
   pub asking : acts (record { reply = site_replies.Names [] false; act = None })
       ≡ record { told = listed (site_replies.Names [] false); entry = None }
   pub knowing : directory_turn (frame_of realm home) (first_directory) (knows app.name) ≡ tells (known false)
@@ -128,7 +131,8 @@ pub record CellsAreApart : Type 0 where
   pub no_parts : fresh.parts app 1 ≡ []
   pub its : with_lines fresh.journals (Repository app) (created 5) (Repository app) ≡ created 5
   pub others : with_lines fresh.journals (Repository app) (created 5) (Directory home) ≡ []
-  pub uploading : is_uploading 5 (record first_state { uploads = record { number = 5; docker = true; begun = 0; sizes = [] } ∷ [] })
+  pub uploading : is_uploading 5
+      (record first_state { uploads = record { number = 5; docker = true; begun = 0; sizes = [] } ∷ [] })
       ≡ true
   pub not_uploading : is_uploading 5 first_state ≡ false
   pub left : parts_left (record first_state {
@@ -182,7 +186,8 @@ pub record ScriptsAreRun : Type 0 where
       ≡ plain (Described (row (codes "a1") 11 ∷ []) None)
   pub full : answer (call_script app (Create Mutable) None 70) ≡ plain (Refused (LimitExceeded 4 4))
   pub unregistered : answer (call_script app (Delete true) None 70) ≡ plain (Refused RepositoryNotFound)
-  pub composed : answer (then_do (call_script (key (codes "b1")) (Create Mutable) None 70) (λ d. call_script (key (codes "b1")) (Delete false) None 71))
+  pub composed : answer (then_do (call_script (key (codes "b1")) (Create Mutable) None 70)
+      (λ d. call_script (key (codes "b1")) (Delete false) None 71))
       ≡ plain (Deleted 70 Mutable)
   pub listing : site_told (listed (site_replies.Names [] true)) ≡ site_replies.Names [] true
   pub no_listing : site_told nothing ≡ site_replies.Names [] false
@@ -229,7 +234,8 @@ pub record ScriptsAreRun : Type 0 where
 
 -- a creation and then its deletion, of `b1`
 abbrev both : Script Decided
-both = then_do (call_script (key (codes "b1")) (Create Mutable) None 70) (λ d. call_script (key (codes "b1")) (Delete false) None 71)
+both = then_do (call_script (key (codes "b1")) (Create Mutable) None 70)
+    (λ d. call_script (key (codes "b1")) (Delete false) None 71)
 
 -- their places
 abbrev places : List Place
@@ -292,6 +298,7 @@ pub record ViewsAreRead : Type 0 where
   pub whole_is : whole registrations ≡ record { caller = 0; past = 4; seen = registrations }
   pub whole_views : views_of journals (Directory home) ≡ Some (whole registrations)
   pub answered : answer_at realm (run realm world both).world.journals both made ≡ Some (plain (Deleted 70 Mutable))
-  pub enters : length (entered_in realm (run realm world both).world.journals (Repository (key (codes "b1"))) 3 both made)
+  pub enters : length (entered_in realm (run realm world both).world.journals
+      (Repository (key (codes "b1"))) 3 both made)
       ≡ 2
   pub enters_none : entered_in realm (run realm world both).world.journals (Directory home) 3 both made ≡ []

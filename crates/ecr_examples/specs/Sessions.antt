@@ -1,5 +1,5 @@
--- Replies of the JSON API, what requests pose, and sessions at examples (Amazon ECR API Reference; RFC 8259; RFC 9112). The
--- commands and their ends are of this registry.
+-- Replies of the JSON API, what requests pose, and sessions at examples (Amazon ECR API Reference; RFC 8259; RFC 9112).
+-- The commands and their ends are of this registry.
 use Rattle.std.specs.Prelude.{◌≡◌, ℕ, true, false, List, [], ◌∷◌, ◌++◌, map, None, Some, codes}
 use Rattle.serde_json.specs.Data.{number, unsigned, string, array, object, no_items, item, member, no_members}
 use Rattle.ecr_model.specs.declared.http.Request.{Request}
@@ -40,7 +40,8 @@ pub record BodiesAreRendered : Type 0 where
       (member (codes "registryId") (string (codes "111122223333"))
       (member (codes "repositoryArn") (string (codes "arn:aws:ecr:us-east-1:111122223333:repository/team/app"))
       (member (codes "repositoryName") (string (codes "team/app"))
-      (member (codes "repositoryUri") (string (codes "111122223333.dkr.ecr.us-east-1.amazonaws.com/team/app")) no_members))))))
+      (member (codes "repositoryUri")
+      (string (codes "111122223333.dkr.ecr.us-east-1.amazonaws.com/team/app")) no_members))))))
   pub site_is : map site_asked (asked ∷ site app.site (site_calls.Names (record { from = 0; max = 1 }))
       ∷ many app.site None (record { from = 0; max = 1 }) ∷ []) ≡ app.site ∷ app.site ∷ app.site ∷ []
   pub key_is : key_asked asked ≡ app
@@ -72,7 +73,8 @@ pub record BodiesAreRendered : Type 0 where
       ++ codes "{\"__type\":\"SerializationException\",\"message\":\"serialization\"}"
 
 abbrev posted : Request
-posted = request_of 0 (head 1 (record { name = codes "x-amz-target"; value = codes "AmazonEC2ContainerRegistry_V20150921.Nothing" } ∷ [])) []
+posted = request_of 0 (head 1
+    (record { name = codes "x-amz-target"; value = codes "AmazonEC2ContainerRegistry_V20150921.Nothing" } ∷ [])) []
 
 abbrev sites : List SiteId
 sites = app.site ∷ []

@@ -139,7 +139,8 @@ pub record CallsAreDecided : Type 0 where
   pub unlike : same_mutability Mutable Immutable ≡ false
   pub unlike_too : same_mutability Immutable Mutable ≡ false
   pub set : sets_mutability Mutable whole
-      ≡ becomes (record whole { present = Some (record { created = 40; mutability = Mutable }) }) (MutabilitySet Mutable)
+      ≡ becomes (record whole { present = Some (record { created = 40; mutability = Mutable }) })
+      (MutabilitySet Mutable)
   pub stands : sets_mutability Immutable whole ≡ answers (MutabilitySet Immutable)
   pub unset : sets_mutability Immutable gone ≡ refuses RepositoryNotFound
   pub create : step app standard never turn (Create Immutable) ≡ creates 70 Immutable never

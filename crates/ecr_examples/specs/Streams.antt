@@ -1,5 +1,5 @@
--- Chunked bodies and requests in a stream of bytes at examples (RFC 9112, sections 2.2, 6.3, 7.1 and 9.6). Places and sizes
--- are in bytes.
+-- Chunked bodies and requests in a stream of bytes at examples (RFC 9112, sections 2.2, 6.3, 7.1 and 9.6). Places and
+-- sizes are in bytes.
 use Rattle.std.specs.Prelude.{◌≡◌, ℕ, Bool, true, false, List, [], ◌∷◌, ◌++◌, map, replicate, None, Some, codes}
 use Rattle.ecr_model.specs.declared.http.Framing.TheVariants.{Sized}
 use Rattle.ecr_model.specs.declared.http.Head.{Head}

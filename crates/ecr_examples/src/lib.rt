@@ -1,8 +1,8 @@
 //! The definitions at values that are written out by hand.
 //!
 //! A definition that is changed together with the code which it states passes every proof. Here each law has what
-//! definitions come to at values from the public standards, or from this registry's tables where no standard says them, and
-//! the check computes it. The functions do nothing: their contracts are the laws.
+//! definitions come to at values from the public standards, or from this registry's tables where no standard says them,
+//! and the check computes it. The functions do nothing: their contracts are the laws.
 #![tactic(auto)]
 
 mod facts;

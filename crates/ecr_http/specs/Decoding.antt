@@ -35,8 +35,8 @@ pub record IsInData (limit : ℕ) (p : Progress) (body buffer : List ℕ) (left 
   pub behind : drop (suc place) p.ahead ≡ came ++ buffer
   pub due : length came + left ≡ size
 
--- the trailer section is read: the buffer begins with the LF of the last chunk's line, and in so many bytes ends no empty
--- line
+-- the trailer section is read: the buffer begins with the LF of the last chunk's line, and in so many bytes ends no
+-- empty line
 pub record IsInTrailers (p : Progress) (body buffer : List ℕ) (scanned : ℕ) : Type 0 where
   pub place : ℕ
   pub line : HasLine p place 0

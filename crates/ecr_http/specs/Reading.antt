@@ -1,5 +1,5 @@
--- What one call of a reader takes from the source, tells the client and gives. A reader is seen as a point of the stream
--- of all bytes of its source; where it is closed, it isn't used again.
+-- What one call of a reader takes from the source, tells the client and gives. A reader is seen as a point of the
+-- stream of all bytes of its source; where it is closed, it isn't used again.
 use Rattle.std.specs.Prelude.{◌≡◌, ℕ, ◌+◌, ◌<◌, ◌≤◌, ◌⊎◌, Bool, true, false, List, [], length, Option, ⊤}
 use Rattle.std.specs.Io.KnownBytes.{Consumes, Appends, IsAtEnd}
 use Rattle.ecr_model.specs.http.Replies.{continue_reply, interim}
@@ -22,7 +22,8 @@ MayTell p further = (further ≡ []) ⊎ (AwaitsBody p × (further ≡ continue_
 -- the event that is given where these bytes come, with the reader at that point afterwards
 abbrev pub GivesEvent : Point → Point → Option (List ℕ) → Option (List ℕ) → Option (List ℕ) → Event → Type 0
 GivesEvent p q left held now (events.Request request) =
-    (n : ℕ) × Meets p (whole request n) × (q ≡ past_request p request n) × Appends held now (interim (is_waiting request))
+    (n : ℕ) × Meets p (whole request n) × (q ≡ past_request p request n)
+    × Appends held now (interim (is_waiting request))
 GivesEvent p q left held now events.End = EndsAs true p held now ended × IsAtEnd left
 GivesEvent p q left held now (events.Truncated at) = EndsAs true p held now (truncated at) × IsAtEnd left
 GivesEvent p q left held now (events.Bad at) = EndsAs false p held now (bad_at at)

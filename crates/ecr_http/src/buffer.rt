@@ -66,7 +66,8 @@ impl Buffer {
         self.start += count;
     }
 
-    /// Moves the first `most` bytes, or all where there are fewer, to the end of `to`. After an `Err` both are as before.
+    /// Moves the first `most` bytes, or all where there are fewer, to the end of `to`. After an `Err` both are as
+    /// before.
     pub fn move_to(&mut self, to: &mut Vec<u8>, most: usize) -> Result<(), Mem>
         ensures moved { OnOk result (to.new.items ≡ to.old.items ++ take most self.old) }
         ensures rest { OnOk result (self.new ≡ drop most self.old) }

@@ -40,8 +40,8 @@ pub(crate) fn size_of(line: &[u8]) -> Option<u64>
     }
 }
 
-/// Whether CR LF stands at the front of the bytes behind a chunk's data: false where too few are there to tell, and a fault
-/// where others stand there.
+/// Whether CR LF stands at the front of the bytes behind a chunk's data: false where too few are there to tell, and a
+/// fault where others stand there.
 pub(crate) fn is_closed(bytes: &[u8]) -> Result<bool, Fault>
     ensures closed { IsClosed bytes.now result }
 {

@@ -65,7 +65,8 @@ impl Intake {
         }
     }
 
-    // One step: what stands in the buffer is used, or more is read once. It gives the next stage; none where the body is whole.
+    // One step: what stands in the buffer is used, or more is read once. It gives the next stage; none where the body
+    // is whole.
     fn decode<S: Source>(
         &mut self,
         source: &mut S,
@@ -138,11 +139,13 @@ impl Intake {
         self.read_on(source, Stage::Line)
     }
 
-    // Uses the line whose LF stands at that place; of the last chunk's line the LF stays, since an empty line may follow it.
+    // Uses the line whose LF stands at that place; of the last chunk's line the LF stays, since an empty line may
+    // follow it.
     fn begin(&mut self, place: usize, so_far: usize, limit: u64) -> Result<Option<Stage>, Fault>
         requires { line_end self.old.buffer ≡ Some place }
         ensures goes_on { (before after : Option (List ℕ)) (old : Intake) (body : List ℕ) → length body ≡ so_far
-            → Decodes limit before old after self.old body stage.Line → DecodesOn limit before old after self.new body result }
+            → Decodes limit before old after self.old body stage.Line
+            → DecodesOn limit before old after self.new body result }
         ensures nearer { IsNearer result self.new (left_to_do stage.Line self.old) }
         ensures no_fault { result ≡ Err Fault.ReadFault → ⊥ }
     {
@@ -183,8 +186,8 @@ impl Intake {
         self.close(source)
     }
 
-    // Moves what is there of a chunk's data to the body, and gives how many bytes of it are still due. After an `Err` all is
-    // as before.
+    // Moves what is there of a chunk's data to the body, and gives how many bytes of it are still due. After an `Err`
+    // all is as before.
     fn move_data(&mut self, body: &mut Vec<u8>, left: u64) -> Result<u64, Mem>
         ensures moved { IfOk result (λ due. (limit : ℕ) (before after : Option (List ℕ)) (old : Intake)
             → Decodes limit before old after self.old body.old.items (stage.Data left)

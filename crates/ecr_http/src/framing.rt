@@ -1,5 +1,5 @@
-// How a request's body is delimited, and what its head says of the session (RFC 9112, sections 6.3 and 9.6). Lengths are in
-// bytes.
+// How a request's body is delimited, and what its head says of the session (RFC 9112, sections 6.3 and 9.6). Lengths
+// are in bytes.
 ghost use Rattle.std.specs.Prelude.{◌≡◌, ◌<◌, ◌^◌, false, length, take, IsTrue, option_map, ◌≤◌, ◌↔◌};
 ghost use Rattle.std.specs.List.{list_all};
 ghost use Rattle.std.specs.Char.{is_ascii_digit};

@@ -38,8 +38,8 @@ pub(crate) fn find_end(bytes: &[u8], from: usize) -> Option<usize>
     find_end_within(bytes, from, MAX_HEAD)
 }
 
-/// Finds where the first empty line ends, if that is within the limit. None ends in the first `from` bytes, which aren't
-/// looked at again.
+/// Finds where the first empty line ends, if that is within the limit. None ends in the first `from` bytes, which
+/// aren't looked at again.
 pub(crate) fn find_end_within(bytes: &[u8], from: usize, limit: usize) -> Option<usize>
     requires within { from ≤ length bytes.now }
     requires known { HasNoEnd bytes.now from }
@@ -77,8 +77,8 @@ fn text_at(alloc: Global, head: &[u8], span: Span) -> Result<Text, Mem>
     Text::copy_of(alloc, span.of(head))
 }
 
-// How many lines end in the bytes, which is no less than the number of their fields. They are counted in pieces whose count
-// fits a byte, so that a processor compares many bytes at once.
+// How many lines end in the bytes, which is no less than the number of their fields. They are counted in pieces whose
+// count fits a byte, so that a processor compares many bytes at once.
 fn count_lines(bytes: &[u8]) -> usize
     ensures { result ≡ line_count bytes.now }
 {
@@ -128,8 +128,8 @@ fn head_from(
     })
 }
 
-/// Reads these bytes as a head, which they must be as a whole; none, if they aren't one. The fields take room for as many
-/// as there are lines.
+/// Reads these bytes as a head, which they must be as a whole; none, if they aren't one. The fields take room for as
+/// many as there are lines.
 pub(crate) fn parse_head(alloc: Global, bytes: &[u8]) -> Result<Option<Head>, Mem>
     ensures parses { IfOk result (λ head. Parses bytes.now head) }
 {

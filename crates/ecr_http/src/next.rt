@@ -93,7 +93,8 @@ impl Intake {
         sink: &mut K,
     ) -> Result<Request, Fault>
         requires ready { IsReady self.old }
-        ensures next { TakesRequest (S.left source.old) (K.held sink.old) self.old (S.left source.new) (K.held sink.new) self.new
+        ensures next { TakesRequest (S.left source.old) (K.held sink.old) self.old (S.left source.new)
+            (K.held sink.new) self.new
             result }
         ensures ready { OnOk result (IsReady self.new) }
         ensures reads_later { S.faults source.old ≤ S.faults source.new }

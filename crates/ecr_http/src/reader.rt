@@ -10,10 +10,11 @@ use ecr_outside::{Sink, Source};
 use std::alloc::Global;
 use std::marker::Model;
 
-/// The requests of a source. Contracts see how far the stream of all its bytes was read: how many bytes were used, those
-/// that were read and not yet used, and whether what follows doesn't count.
+/// The requests of a source. Contracts see how far the stream of all its bytes was read: how many bytes were used,
+/// those that were read and not yet used, and whether what follows doesn't count.
 ///
-/// A reader is used with one source, and no more after a request that closes the session or an event that is no request.
+/// A reader is used with one source, and no more after a request that closes the session or an event that is no
+/// request.
 #[derive(Drop)]
 pub struct Reader {
     intake: Intake,
@@ -46,8 +47,8 @@ impl Reader {
         })
     }
 
-    /// What comes next of the source, however its bytes are cut into pieces. A client that waits for it is told to go on
-    /// (RFC 9110, section 10.1.1), before its body is read.
+    /// What comes next of the source, however its bytes are cut into pieces. A client that waits for it is told to go
+    /// on (RFC 9110, section 10.1.1), before its body is read.
     ///
     /// What a body takes grows with what came of it, and not with what its length promised.
     pub fn next<S: Source, K: Sink>(&mut self, alloc: Global, source: &mut S, sink: &mut K) -> Event

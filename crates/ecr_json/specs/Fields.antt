@@ -29,7 +29,8 @@ field_map f Absent = Absent
 field_map f Wrong = Wrong
 field_map f (Here a) = Here (f a)
 
--- the whole number that the value is; one that is written with a fraction or an exponent isn't whole (RFC 8259, section 6)
+-- the whole number that the value is; one that is written with a fraction or an exponent isn't whole (RFC 8259, section
+-- 6)
 abbrev pub as_whole : Data → Option ℤ
 as_whole value = option_and_then as_integer (as_number value)
 

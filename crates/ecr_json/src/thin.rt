@@ -121,7 +121,8 @@ fn read_member(
     depth: usize,
 ) -> Result<bool, Mem>
     ensures { IfOk result (λ b. let all = converted of_json (value depth reader.old) in
-        MatchBool b (Keeps (map (λ n. n.now) names.now) name.now all (members_view found.old.entries) (members_view found.new.entries) reader.new) (all ≡ None)) }
+        MatchBool b (Keeps (map (λ n. n.now) names.now) name.now all (members_view found.old.entries)
+        (members_view found.new.entries) reader.new) (all ≡ None)) }
 {
     if !is_named(name, names) {
         return Ok(skip(reader, depth));

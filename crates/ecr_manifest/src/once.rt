@@ -30,9 +30,11 @@ pub(crate) fn each_once(alloc: Global, digests: &[Digest]) -> Result<Listed<Dige
 fn note(seen: &mut BTreeSet<[u8; 32]>, digest: &Digest) -> Result<bool, Mem>
     ensures new { IfOk result (λ new. new ≡ not (contains (slice_cmp nat_cmp) seen.old digest.now.bytes)) }
     ensures added { IfOk result
-        (λ new. (q : List ℕ) → contains (slice_cmp nat_cmp) seen.new q ≡ (if is_eq (slice_cmp nat_cmp digest.now.bytes q) then true else contains (slice_cmp nat_cmp) seen.old q)) }
+        (λ new. (q : List ℕ) → contains (slice_cmp nat_cmp) seen.new q ≡
+        (if is_eq (slice_cmp nat_cmp digest.now.bytes q) then true else contains (slice_cmp nat_cmp) seen.old q)) }
     ensures same { IfOk result
-        (λ new. OnFalse new ((q : List ℕ) → contains (slice_cmp nat_cmp) seen.new q ≡ contains (slice_cmp nat_cmp) seen.old q)) }
+        (λ new. OnFalse new ((q : List ℕ)
+        → contains (slice_cmp nat_cmp) seen.new q ≡ contains (slice_cmp nat_cmp) seen.old q)) }
 {
     match seen.insert(digest.bytes) {
         Ok(new) => Ok(new),

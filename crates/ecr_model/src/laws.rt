@@ -31,8 +31,8 @@ pub fn a_cut_changes_nothing()
     ensures unchanged { ACutChangesNothing }
 {}
 
-/// The bytes that a session reads determine the requests, what is written to them at their moments and cuts, what is left
-/// in the journals, and how the session ends, where the machine doesn't end it.
+/// The bytes that a session reads determine the requests, what is written to them at their moments and cuts, what is
+/// left in the journals, and how the session ends, where the machine doesn't end it.
 pub fn output_is_determined()
     ensures determined { OutputIsDetermined }
 {}
@@ -85,8 +85,8 @@ pub fn a_creation_is_kept()
     ensures kept { ACreationIsKept }
 {}
 
-/// A call is answered RepositoryNotFound only where the name isn't registered, or the repository is absent, each as at the
-/// call's ticket.
+/// A call is answered RepositoryNotFound only where the name isn't registered, or the repository is absent, each as at
+/// the call's ticket.
 pub fn not_found_has_its_cause()
     ensures cause { NotFoundHasItsCause }
 {}

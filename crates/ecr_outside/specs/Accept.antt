@@ -37,8 +37,8 @@ module _ {I : Type 0} {O : Type 0} where
     pub later : old.faults ≤ new.faults
     pub cause : answer ≡ nexts.Failed → old.faults < new.faults
 
--- an acceptor in memory: the acceptor, how many links are left, the numbers of the calls that fail, and the number of the
--- next call
+-- an acceptor in memory: the acceptor, how many links are left, the numbers of the calls that fail, and the number of
+-- the next call
 pub record Hall : Type 0 where
   pub entrance : Entrance
   pub left : ℕ

@@ -24,8 +24,8 @@ pub enum Next<I, O> {
     Failed,
 }
 
-/// Where the links of clients come from. Contracts see how often it failed, whether its address was opened, and whether it
-/// said that no link comes any more.
+/// Where the links of clients come from. Contracts see how often it failed, whether its address was opened, and whether
+/// it said that no link comes any more.
 pub trait Accept {
     /// Where the bytes of a link come from.
     type In: Source + Send + Drop;

@@ -45,8 +45,8 @@ pub struct HoldGate {
 }
 
 impl HoldGate {
-    /// A gate that holds `worker` at `stage` until another one has passed `until`. It looks at most `turns` times whether
-    /// that is so, and lets others run after each.
+    /// A gate that holds `worker` at `stage` until another one has passed `until`. It looks at most `turns` times
+    /// whether that is so, and lets others run after each.
     pub fn new(worker: u32, stage: Stage, until: Stage, turns: u64) -> HoldGate {
         HoldGate {
             worker,

@@ -1,5 +1,5 @@
 // Links from the network: the trusted edge of a server.
-ghost use Rattle.std.specs.Prelude.{◌≡◌, None, false};
+ghost use Rattle.std.specs.Prelude.{◌≡◌, None, false, true, IfOk};
 ghost use Rattle.ecr_outside.specs.Accept.{Entrance, GoesOn, Opens};
 
 use crate::faults::Faults;
@@ -26,8 +26,8 @@ const LINGER_PIECES: u32 = 65_536;
 
 const PIECE: usize = 16_384;
 
-/// How often an acceptor tries again that finds too many files open or a link that is gone, and how many milliseconds it
-/// waits each time.
+/// How often an acceptor tries again that finds too many files open or a link that is gone, and how many milliseconds
+/// it waits each time.
 const TRIES: u32 = 1000;
 
 const PAUSE: u64 = 10;
@@ -37,8 +37,8 @@ const TLS_HANDSHAKE: u8 = 22;
 
 /// What the peer of a link sends. It tells no bytes; contracts see how often it failed.
 ///
-/// Each error is a fault, but one that was only interrupted is tried again first. So is a read that brings nothing for 60
-/// seconds, and a first byte with which TLS begins, since its client would wait for an answer.
+/// Each error is a fault, but one that was only interrupted is tried again first. So is a read that brings nothing for
+/// 60 seconds, and a first byte with which TLS begins, since its client would wait for an answer.
 #[derive(Drop)]
 pub struct LinkSource {
     stream: Arc<TcpStream, Global>,
@@ -88,9 +88,10 @@ impl Source for LinkSource {
 
 /// Where the replies to the peer of a link go. It tells no bytes; contracts see how often it failed.
 ///
-/// Each error is a fault, but one that was only interrupted is tried again first. So is a write that takes nothing, and one
-/// that takes nothing for 60 seconds. Where it is dropped the link closes: nothing more is written, and what the peer still
-/// sends is read and dropped, for at most 10 seconds and 1 GiB, so that a peer that writes on still gets the reply.
+/// Each error is a fault, but one that was only interrupted is tried again first. So is a write that takes nothing, and
+/// one that takes nothing for 60 seconds. Where it is dropped the link closes: nothing more is written, and what the
+/// peer still sends is read and dropped, for at most 10 seconds and 1 GiB, so that a peer that writes on still gets the
+/// reply.
 pub struct LinkSink<'a, R: Clock> {
     stream: Arc<TcpStream, Global>,
     clock: &'a R,
@@ -171,8 +172,9 @@ fn is_within<R: Clock>(clock: &R, begun: Instant) -> bool {
 
 /// An acceptor of links over TCP. Contracts see its faults, and whether it was opened and closed.
 ///
-/// It never closes by itself: an error of the listener is a fault, and ends it. A link that is gone before it was taken is
-/// passed over, and where too many files are open, or there is no memory for a link, it waits and tries again for a while.
+/// It never closes by itself: an error of the listener is a fault, and ends it. A link that is gone before it was taken
+/// is passed over, and where too many files are open, or there is no memory for a link, it waits and tries again for a
+/// while.
 #[derive(Drop)]
 pub struct RealAccept<'a, R: Net<Listener = TcpListener, Stream = TcpStream> + Clock> {
     alloc: Global,
@@ -303,12 +305,29 @@ mod tests {
     use std::test::Fail;
     use std::time::Clock;
 
-    // A client sends the bytes and no more. What two reads of its link and a write answer, and how many bytes the client gets.
+    // Opens a port that the system chooses.
+    fn opened<R: Net<Listener = TcpListener, Stream = TcpStream> + Clock + Sync>(
+        accept: &mut RealAccept<R>,
+    ) -> io::Result<()>
+        requires closed { accept.old.is_open ≡ false }
+        ensures open { IfOk result (λ _. accept.new.is_open ≡ true) }
+    {
+        match accept.open("127.0.0.1:0") {
+            Opened::Ready => Ok(()),
+            Opened::Failed => Err(ErrorKind::AddrNotAvailable.into()),
+        }
+    }
+
+    // A client sends the bytes and no more. What two reads of its link and a write answer, and how many bytes the
+    // client gets.
     fn answered<R: Net<Listener = TcpListener, Stream = TcpStream> + Clock + Sync>(
         rt: &R,
         accept: &mut RealAccept<R>,
         sent: &[u8],
-    ) -> io::Result<(Got, Got, Took, usize)> {
+    ) -> io::Result<(Got, Got, Took, usize)>
+        requires open { accept.old.is_open ≡ true }
+        ensures still { IfOk result (λ _. accept.new.is_open ≡ true) }
+    {
         let port = accept.port().unwrap_or(0);
         let mut client = TcpStream::connect(rt, ("127.0.0.1", port))?;
         client.write_all(sent)?;
@@ -327,10 +346,11 @@ mod tests {
 
     #[test]
     fn a_listener_is_an_acceptor(rt: HostRuntime) -> Result<(), Fail> {
+        let mut without_port = RealAccept::new(rt.alloc(), &rt);
+        assert_eq!(rt; without_port.open("127.0.0.1"), Opened::Failed);
         let mut accept = RealAccept::new(rt.alloc(), &rt);
         assert_eq!(rt; accept.port(), None);
-        assert_eq!(rt; accept.open("127.0.0.1"), Opened::Failed);
-        assert_eq!(rt; accept.open("127.0.0.1:0"), Opened::Ready);
+        opened(&mut accept)?;
         let said = answered(&rt, &mut accept, b"abc")?;
         assert_eq!(rt; said, (Got::Bytes(3), Got::End, Took::Bytes(2), 2));
         // A client that begins as TLS does is refused at once.

@@ -12,8 +12,8 @@ use std::collections::VecDeque;
 use std::marker::Model;
 use std::sync::{Arc, Mutex, Wait};
 
-/// A sink in memory whose bytes several hold, so that they can be read after it is gone. It tells no bytes to contracts, which
-/// see how often it failed.
+/// A sink in memory whose bytes several hold, so that they can be read after it is gone. It tells no bytes to
+/// contracts, which see how often it failed.
 ///
 /// A write that finds the bytes in use, or no memory, is a fault.
 #[derive(Drop)]
@@ -75,8 +75,8 @@ impl Sink for SharedSink {
     }
 }
 
-/// An acceptor in memory. Contracts see its faults, whether it was opened and closed, how many links are left, and what its
-/// calls are to do.
+/// An acceptor in memory. Contracts see its faults, whether it was opened and closed, how many links are left, and what
+/// its calls are to do.
 #[derive(Drop)]
 pub struct MemAccept {
     links: VecDeque<(MemSource, SharedSink)>,
@@ -101,8 +101,8 @@ impl Model for MemAccept {
 }
 
 impl MemAccept {
-    /// An acceptor of these links, in their order, which closes after them. Its calls of `open` and `next` count from 0, and
-    /// those of the numbers in `fails` fail.
+    /// An acceptor of these links, in their order, which closes after them. Its calls of `open` and `next` count from
+    /// 0, and those of the numbers in `fails` fail.
     pub fn new(
         alloc: Global,
         links: VecDeque<(MemSource, SharedSink)>,

@@ -180,7 +180,8 @@ fn count_of(texts: &[Text], text: &[u8]) -> usize {
     count
 }
 
-/// Whether the rule has that number, a hundred prefixes, of which 99 are `a` and one is the last, and a count of one image.
+/// Whether the rule has that number, a hundred prefixes, of which 99 are `a` and one is the last, and a count of one
+/// image.
 fn is_hundred(rule: &Rule, number: u32, last: &str) -> bool {
     let Choose::Prefixes(texts) = &rule.choose else {
         return false;

@@ -23,8 +23,8 @@ repository_of present = record first_state { present = present }
 abbrev pub row_of : RepoKey → Presence → Described
 row_of key is = record { name = key.name; created = is.created; mutability = is.mutability }
 
--- the outcome has the call's reply with its content, and says whether the repository changes; afterwards the repository is
--- the call's
+-- the outcome has the call's reply with its content, and says whether the repository changes; afterwards the repository
+-- is the call's
 pub record IsDone (o : steps.Outcome) (before after : Repository) (out : Outcome) : Type 0 where
   pub reply : out.reply ≡ o.reply
   pub changed : out.changed ≡ is_some o.after

@@ -1,5 +1,5 @@
--- A repository's name with its journal, and what goes with a call on it (Amazon ECR API Reference, the actions). Tickets
--- count from 0, moments are in seconds.
+-- A repository's name with its journal, and what goes with a call on it (Amazon ECR API Reference, the actions).
+-- Tickets count from 0, moments are in seconds.
 use Rattle.std.specs.Prelude.{◌≡◌, ℕ, Bool, List, [], ◌∷◌, ◌++◌, None, is_some, if◌then◌else◌}
 use Rattle.ecr_model.specs.declared.requests.call.Call.{Call}
 use Rattle.ecr_model.specs.declared.requests.call.Call.TheVariants.{Describe}
@@ -44,8 +44,8 @@ changes_repository state turn call = is_some (call_outcome state turn call).afte
 abbrev pub with_entry : State → Line → State
 with_entry state line = record state { journal = state.journal ++ line ∷ [] }
 
--- the state after a call: with its line, under that caller's number, where the call changes the repository, and as before
--- where it doesn't
+-- the state after a call: with its line, under that caller's number, where the call changes the repository, and as
+-- before where it doesn't
 abbrev pub after_call : State → ℕ → Turn → Call → State
 after_call state caller turn call =
     if changes_repository state turn call then with_entry state (line_of caller turn call) else state

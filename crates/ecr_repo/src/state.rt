@@ -11,8 +11,8 @@ use ecr_model::{Act, Call, Entry, Limits, Line, Listed, Mem, Moment, Rare, RepoK
 use std::alloc::Global;
 use std::marker::Model;
 
-/// The state of a repository's name. Contracts see its name and site, the limits, and its journal, which is sound: what the
-/// name has is what the journal leads to.
+/// The state of a repository's name. Contracts see its name and site, the limits, and its journal, which is sound: what
+/// the name has is what the journal leads to.
 #[derive(Drop)]
 pub struct RepoState {
     key: RepoKey,
@@ -70,8 +70,8 @@ impl RepoState {
         self.cell.answer(alloc, &self.key, call)
     }
 
-    /// Answers a call in the turn of that ticket and moment, in seconds, and makes its change. Exactly where it changes the
-    /// repository the journal has one line more, under the caller's number. After an `Err` nothing changed.
+    /// Answers a call in the turn of that ticket and moment, in seconds, and makes its change. Exactly where it changes
+    /// the repository the journal has one line more, under the caller's number. After an `Err` nothing changed.
     ///
     /// Nothing goes over the journal, whose room doubles now and then.
     pub fn change(

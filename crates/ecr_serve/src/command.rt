@@ -15,16 +15,16 @@ use std::alloc::Global;
 /// How a command ended.
 #[derive(Drop)]
 pub struct Ended {
-    /// The exit status: 0 `Whole`, 2 `Usage`, 3 `ReadFault`, 4 `WriteFault`, 5 `Mem`, 6 `AcceptFault`, 7 `Truncated`, 8 `Bad` and
-    /// `TooLong`, 9 `Spent`.
+    /// The exit status: 0 `Whole`, 2 `Usage`, 3 `ReadFault`, 4 `WriteFault`, 5 `Mem`, 6 `AcceptFault`, 7 `Truncated`, 8
+    /// `Bad` and `TooLong`, 9 `Spent`.
     pub status: u8,
     pub end: End,
     /// One for each request that was answered.
     pub cuts: Vec<Cut>,
 }
 
-/// Runs the command that the words are: `session`, then `--clock` and a moment in seconds or neither, and then the words of
-/// 1 to 64 different sites, as `us-east-1/111122223333`.
+/// Runs the command that the words are: `session`, then `--clock` and a moment in seconds or neither, and then the
+/// words of 1 to 64 different sites, as `us-east-1/111122223333`.
 ///
 /// A session reads requests from the source and writes the replies to the sink, each as soon as its request was
 /// answered. It begins with a registry in which nothing is, and which goes when it ends. Where a moment is given it is
@@ -42,16 +42,40 @@ pub fn solo<S: Source, K: Sink, C: Clock>(
     // The words are told apart exactly.
     ensures usage_only { result.end ≡ End.Usage → IsNoCommand (map string_bytes words.now) }
     ensures usage { IsNoCommand (map string_bytes words.now) → IsNotRun
-        (record { left = S.left source.old; held = K.held sink.old; told = C.told clock.old; read_faults = S.faults source.old; write_faults = K.faults sink.old })
-        (record { left = S.left source.new; held = K.held sink.new; told = C.told clock.new; read_faults = S.faults source.new; write_faults = K.faults sink.new })
+        (record {
+          left = S.left source.old;
+          held = K.held sink.old;
+          told = C.told clock.old;
+          read_faults = S.faults source.old;
+          write_faults = K.faults sink.old;
+        })
+        (record {
+          left = S.left source.new;
+          held = K.held sink.new;
+          told = C.told clock.new;
+          read_faults = S.faults source.new;
+          write_faults = K.faults sink.new;
+        })
         result.end }
     ensures no_cuts { IsNoCommand (map string_bytes words.now) → result.cuts.items ≡ [] }
 
     // What a session reads, answers and writes, and how it ends.
     ensures session { (fixed : Option ℕ) (sites : List SiteId) → IsSession (map string_bytes words.now) fixed sites
         → RunsSession sites fixed
-        (record { left = S.left source.old; held = K.held sink.old; told = C.told clock.old; read_faults = S.faults source.old; write_faults = K.faults sink.old })
-        (record { left = S.left source.new; held = K.held sink.new; told = C.told clock.new; read_faults = S.faults source.new; write_faults = K.faults sink.new })
+        (record {
+          left = S.left source.old;
+          held = K.held sink.old;
+          told = C.told clock.old;
+          read_faults = S.faults source.old;
+          write_faults = K.faults sink.old;
+        })
+        (record {
+          left = S.left source.new;
+          held = K.held sink.new;
+          told = C.told clock.new;
+          read_faults = S.faults source.new;
+          write_faults = K.faults sink.new;
+        })
         result.cuts.items result.end }
 {
     match read_words(alloc, words) {
@@ -72,8 +96,20 @@ fn serve<S: Source, K: Sink, C: Clock>(
     requires { 0 < length command.sites }
     ensures status { result.status ≡ exit_status result.end }
     ensures runs { RunsSession command.sites command.fixed
-        (record { left = S.left source.old; held = K.held sink.old; told = C.told clock.old; read_faults = S.faults source.old; write_faults = K.faults sink.old })
-        (record { left = S.left source.new; held = K.held sink.new; told = C.told clock.new; read_faults = S.faults source.new; write_faults = K.faults sink.new })
+        (record {
+          left = S.left source.old;
+          held = K.held sink.old;
+          told = C.told clock.old;
+          read_faults = S.faults source.old;
+          write_faults = K.faults sink.old;
+        })
+        (record {
+          left = S.left source.new;
+          held = K.held sink.new;
+          told = C.told clock.new;
+          read_faults = S.faults source.new;
+          write_faults = K.faults sink.new;
+        })
         result.cuts.items result.end }
 {
     let SessionWords { fixed, sites } = command;

@@ -16,11 +16,11 @@ use std::alloc::Global;
 use std::sync::Wait;
 use std::thread::Threads;
 
-/// Runs the server that the words are: `serve`, `--workers` and `--copiers` with a number each or not, an address, and the
-/// words of 1 to 64 different sites, as `serve --workers 64 127.0.0.1:5000 us-east-1/111122223333`.
+/// Runs the server that the words are: `serve`, `--workers` and `--copiers` with a number each or not, an address, and
+/// the words of 1 to 64 different sites, as `serve --workers 64 127.0.0.1:5000 us-east-1/111122223333`.
 ///
-/// It opens the address, writes the line `ready`, and then takes links until the acceptor closes or fails. Each link is a
-/// session of its own, which a worker serves over the one registry. A fault of a session ends that session alone. The
+/// It opens the address, writes the line `ready`, and then takes links until the acceptor closes or fails. Each link is
+/// a session of its own, which a worker serves over the one registry. A fault of a session ends that session alone. The
 /// registry has nothing in it at first, and goes when the server ends.
 pub fn serve<R: Threads + Wait + Sync, A: Accept, K: Sink, T: Clocks + Sync, G: Gate + Sync>(
     rt: &R,
@@ -47,7 +47,8 @@ pub fn serve<R: Threads + Wait + Sync, A: Accept, K: Sink, T: Clocks + Sync, G: 
         → IsServer (map string_bytes words.now) workers copiers address sites
         → RunsServer
         (front_with (A.entrance accept.old) (record { held = K.held sink.old; faults = K.faults sink.old }))
-        (front_with (A.entrance accept.new) (record { held = K.held sink.new; faults = K.faults sink.new })) result.end }
+        (front_with (A.entrance accept.new)
+        (record { held = K.held sink.new; faults = K.faults sink.new })) result.end }
 {
     match read_server(alloc, words) {
         Err(_) => with_status(End::Mem, Vec::new(alloc)),

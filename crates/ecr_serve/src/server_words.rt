@@ -25,8 +25,8 @@ pub struct ServerWords<'a> {
     pub sites: Listed<SiteId>,
 }
 
-/// Reads the words of a command: `serve`, `--workers` and `--copiers` with a number each or not, an address, and the words
-/// of 1 to 64 different sites. `None` where they are others.
+/// Reads the words of a command: `serve`, `--workers` and `--copiers` with a number each or not, an address, and the
+/// words of 1 to 64 different sites. `None` where they are others.
 pub(crate) fn read_server<'a>(
     alloc: Global,
     words: &'a [String],
@@ -154,7 +154,8 @@ fn read_site_texts(alloc: Global, words: &[&str]) -> Result<Option<Listed<SiteId
 
 // The number of an option, from 1 to `most`; without a text the usual one.
 fn read_count(alloc: Global, text: Option<&str>, usual: u32, most: u32) -> Result<Option<u32>, Mem>
-    ensures { IfOk result (λ o. MatchOption o (IsNoCount usual most (text_of text.entry)) (IsCount usual most (text_of text.entry))) }
+    ensures { IfOk result
+        (λ o. MatchOption o (IsNoCount usual most (text_of text.entry)) (IsCount usual most (text_of text.entry))) }
 {
     match text {
         None => Ok(Some(usual)),
@@ -164,7 +165,8 @@ fn read_count(alloc: Global, text: Option<&str>, usual: u32, most: u32) -> Resul
 
 // A number in decimal, from 1 to `most`, that stands where another one is usual.
 fn read_within(alloc: Global, word: &str, usual: u32, most: u32) -> Result<Option<u32>, Mem>
-    ensures { IfOk result (λ o. MatchOption o (IsNoCount usual most (Some word.now)) (IsCount usual most (Some word.now))) }
+    ensures { IfOk result
+        (λ o. MatchOption o (IsNoCount usual most (Some word.now)) (IsCount usual most (Some word.now))) }
 {
     let Some(count) = read_number(alloc, word, u64::from(most))? else {
         return Ok(None);

@@ -71,7 +71,8 @@ fn read_served(
 ) -> Result<Option<SessionWords>, Mem>
     requires { IfSome fixed (λ moment. moment ≤ MAX_MOMENT) }
     ensures { let all = codes "session" ∷ clock_words fixed ++ map string_bytes words.now in IfOk result
-        (λ o. MatchOption o ((sites : List SiteId) → ¬ (IsSession all fixed sites)) (λ s. (s.fixed ≡ fixed) × IsSession all fixed s.sites)) }
+        (λ o. MatchOption o ((sites : List SiteId) → ¬ (IsSession all fixed sites))
+        (λ s. (s.fixed ≡ fixed) × IsSession all fixed s.sites)) }
 {
     if words.is_empty() || words.len() > MAX_SITES {
         return Ok(None);

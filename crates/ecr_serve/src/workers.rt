@@ -96,8 +96,8 @@ where
     }
 }
 
-/// Serves the links of the acceptor, each by the next worker that is free, until the acceptor closes or fails. Then the links
-/// that were taken are served, and every worker has ended.
+/// Serves the links of the acceptor, each by the next worker that is free, until the acceptor closes or fails. Then the
+/// links that were taken are served, and every worker has ended.
 ///
 /// Each worker is a thread. One for which no thread can be made is left out; where none can be made, the caller's own
 /// thread serves each link before it takes the next.

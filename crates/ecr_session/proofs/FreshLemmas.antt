@@ -36,7 +36,8 @@ serviced_between journals set before after es account last s =
     (places_rise journals (stands set set.first before.told) (stands set last after.told) es s.served)
 
 -- the places of a session among others, however it ended
-pub ServesAmong-between : (set : SettingOf Views) (before after : Outside) (account : Account) (last : Views) (end : End)
+pub ServesAmong-between : (set : SettingOf Views) (before after : Outside) (account : Account) (last : Views)
+    (end : End)
     → ServesAmong set before after account last end → AreBetween set.first last (all_places account.places)
 ServesAmong-between set before after account last end s =
     let of = exchanges_in (IsServedAmong (journals_of last)) set before after account last end s in

@@ -33,8 +33,8 @@ reply_bytes bare close (Some reply) = message_bytes reply
 abbrev pub cut_of : ℕ → Bool → Option Digest → Cut
 cut_of entries failed sealed = record { entries = entries; failed = failed; sealed = sealed }
 
--- all turns of the request were made: the reply is that of their answer with its content, and the places and the cut are
--- theirs
+-- all turns of the request were made: the reply is that of their answer with its content, and the places and the cut
+-- are theirs
 pub record IsAnswered (before after : DeskState) (moment : ℕ) (request : Request) (contents : List (List ℕ))
     (bytes : List ℕ) (places : List Place) (cut : Cut) : Type 0 where
   pub answer : Decided
@@ -45,8 +45,8 @@ pub record IsAnswered (before after : DeskState) (moment : ℕ) (request : Reque
   pub served : cut.failed ≡ false
   pub sealed_is : cut.sealed ≡ answer.sealed
 
--- the first turns of the request were made, and there was no memory for more, or for the reply: the reply is the fixed one,
--- and the places are the first of theirs
+-- the first turns of the request were made, and there was no memory for more, or for the reply: the reply is the fixed
+-- one, and the places are the first of theirs
 pub record IsFailed (before after : DeskState) (moment : ℕ) (request : Request) (contents : List (List ℕ))
     (bytes : List ℕ) (places : List Place) (cut : Cut) : Type 0 where
   pub stopped : Stopped before after (script_of before.realm moment request)
@@ -112,8 +112,8 @@ pub record IsFresh (session : Session) : Type 0 where
 
 -- ---- how far a session has come
 
--- all requests that were read were answered, and the replies were sent: the reader stands there, and this was said of them
--- and left
+-- all requests that were read were answered, and the replies were sent: the reader stands there, and this was said of
+-- them and left
 pub record SoFar (set : SettingOf DeskState) (before after : Outside) (point : Point) (account : Account)
     (last : DeskState) : Type 0 where
   pub read : List ℕ

@@ -26,8 +26,8 @@ pub record RanWith {A : Type 0} (before after : DeskState) (script : Script A) (
   pub added : now ≡ old ++ places
   pub ran : Ran before after script answer places
 
--- some turns of the script were made, the first ones, and the places of some of these, the first ones, stand behind those
--- before
+-- some turns of the script were made, the first ones, and the places of some of these, the first ones, stand behind
+-- those before
 pub record StoppedWith {A : Type 0} (before after : DeskState) (script : Script A)
     (old now : List Place) : Type 0 where
   pub places : List Place
@@ -36,8 +36,8 @@ pub record StoppedWith {A : Type 0} (before after : DeskState) (script : Script 
   pub stopped : Stopped before after script
   pub parts : places_of stopped.turns ≡ places ++ rest
 
--- the turns that were posed came to these bytes, with the content that their reply names, and to this digest of a completed
--- upload
+-- the turns that were posed came to these bytes, with the content that their reply names, and to this digest of a
+-- completed upload
 pub record IsReplied (before after : DeskState) (posed : Posed) (moment : ℕ) (close : Bool) (reply : HttpReply)
     (sealed : Option Digest) (old now : List Place) : Type 0 where
   pub answer : Decided

@@ -138,8 +138,8 @@ fn is_json_call(request: &Request) -> bool
         && path_of(request.target.as_bytes()) == b"/".as_slice()
 }
 
-// What a request of the JSON API asks for, at the site that its Host names of those that are served. A long body is read
-// by a scratch of its own, so that the other stays small.
+// What a request of the JSON API asks for, at the site that its Host names of those that are served. A long body is
+// read by a scratch of its own, so that the other stays small.
 fn read_request(
     alloc: Global,
     scratch: &mut Scratch,

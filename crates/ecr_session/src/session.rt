@@ -46,8 +46,8 @@ impl Session {
         })
     }
 
-    /// Serves requests until the session ends, and says how. Their moment is the fixed one, or else each time the clock's.
-    /// Their bodies are read by the scratch. The stages of each are passed.
+    /// Serves requests until the session ends, and says how. Their moment is the fixed one, or else each time the
+    /// clock's. Their bodies are read by the scratch. The stages of each are passed.
     pub(crate) fn run<D: AnyDesk, S: Source, K: Sink, C: Clock, G: Stages>(
         &mut self,
         alloc: Global,
@@ -63,8 +63,20 @@ impl Session {
         requires some { 0 < length (D.seen desk.old).realm.served }
         ensures serves { HasEnded
             (record { realm = (D.seen desk.old).realm; first = D.seen desk.old; fixed = fixed })
-            (record { left = S.left source.old; held = K.held sink.old; told = C.told clock.old; read_faults = S.faults source.old; write_faults = K.faults sink.old })
-            (record { left = S.left source.new; held = K.held sink.new; told = C.told clock.new; read_faults = S.faults source.new; write_faults = K.faults sink.new })
+            (record {
+              left = S.left source.old;
+              held = K.held sink.old;
+              told = C.told clock.old;
+              read_faults = S.faults source.old;
+              write_faults = K.faults sink.old;
+            })
+            (record {
+              left = S.left source.new;
+              held = K.held sink.new;
+              told = C.told clock.new;
+              read_faults = S.faults source.new;
+              write_faults = K.faults sink.new;
+            })
             self.new (D.seen desk.new) result }
         ensures counted { (D.seen desk.new).made ≡ (D.seen desk.old).made + entries_in self.new.cuts.items }
     {
@@ -77,8 +89,8 @@ impl Session {
         }
     }
 
-    // Serves what comes next of the source. The room for what is said of it is taken first: where there is none, nothing is
-    // read.
+    // Serves what comes next of the source. The room for what is said of it is taken first: where there is none,
+    // nothing is read.
     fn take_turn<D: AnyDesk, S: Source, K: Sink, C: Clock, G: Stages>(
         &mut self,
         alloc: Global,
@@ -93,10 +105,22 @@ impl Session {
         requires opened { self.old.reader.closed ≡ false }
         requires some { 0 < length (D.seen desk.old).realm.served }
         ensures goes_on { (set : SettingOf DeskState) (before : Outside) → set.fixed ≡ fixed → HasCome set before
-            (record { left = S.left source.old; held = K.held sink.old; told = C.told clock.old; read_faults = S.faults source.old; write_faults = K.faults sink.old })
+            (record {
+              left = S.left source.old;
+              held = K.held sink.old;
+              told = C.told clock.old;
+              read_faults = S.faults source.old;
+              write_faults = K.faults sink.old;
+            })
             self.old (D.seen desk.old)
             → GoesOn set before
-            (record { left = S.left source.new; held = K.held sink.new; told = C.told clock.new; read_faults = S.faults source.new; write_faults = K.faults sink.new })
+            (record {
+              left = S.left source.new;
+              held = K.held sink.new;
+              told = C.told clock.new;
+              read_faults = S.faults source.new;
+              write_faults = K.faults sink.new;
+            })
             self.new (D.seen desk.new) result }
         ensures counted { (D.seen desk.new).made + entries_in self.old.cuts.items ≡
             (D.seen desk.old).made + entries_in self.new.cuts.items }
@@ -156,8 +180,20 @@ impl Session {
         requires some { 0 < length (D.seen desk.old).realm.served }
         requires room { HasRoom self.old }
         ensures serves { (left : Option (List ℕ)) (faults : ℕ) → ServesRequest fixed request.now
-            (record { left = left; held = K.held sink.old; told = C.told clock.old; read_faults = faults; write_faults = K.faults sink.old }) self.old (D.seen desk.old)
-            (record { left = left; held = K.held sink.new; told = C.told clock.new; read_faults = faults; write_faults = K.faults sink.new }) self.new (D.seen desk.new) result }
+            (record {
+              left = left;
+              held = K.held sink.old;
+              told = C.told clock.old;
+              read_faults = faults;
+              write_faults = K.faults sink.old;
+            }) self.old (D.seen desk.old)
+            (record {
+              left = left;
+              held = K.held sink.new;
+              told = C.told clock.new;
+              read_faults = faults;
+              write_faults = K.faults sink.new;
+            }) self.new (D.seen desk.new) result }
         ensures counted { (D.seen desk.new).made + entries_in self.old.cuts.items ≡
             (D.seen desk.old).made + entries_in self.new.cuts.items }
         ensures longer { vec_len self.new.cuts ≡ vec_len self.old.cuts + 1 }

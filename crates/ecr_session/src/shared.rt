@@ -15,14 +15,14 @@ use json::Scratch;
 use std::alloc::Global;
 use std::sync::Wait;
 
-/// Serves the requests of the source by a desk of many callers, under the pass, until the session ends, and gives the pass
-/// back.
+/// Serves the requests of the source by a desk of many callers, under the pass, until the session ends, and gives the
+/// pass back.
 ///
-/// Each reply is that of its request's turns over the journals that the pass has seen at last, whatever other callers enter
-/// meanwhile. Each is written as soon as its request was answered, and a request's moment is taken once it was read whole. A
-/// request that finds no memory is answered by the fixed reply, the turns that it made stay, and the session goes on. The
-/// worker passes the gate at [`Stage::InCall`](ecr_outside::Stage) for each request after its moment was taken, and at
-/// [`Stage::Answered`](ecr_outside::Stage) after each reply was sent, both outside every turn.
+/// Each reply is that of its request's turns over the journals that the pass has seen at last, whatever other callers
+/// enter meanwhile. Each is written as soon as its request was answered, and a request's moment is taken once it was
+/// read whole. A request that finds no memory is answered by the fixed reply, the turns that it made stay, and the
+/// session goes on. The worker passes the gate at [`Stage::InCall`](ecr_outside::Stage) for each request after its
+/// moment was taken, and at [`Stage::Answered`](ecr_outside::Stage) after each reply was sent, both outside every turn.
 pub fn serve_session<W: Wait, D: Desk, S: Source, K: Sink, C: Clock, G: Gate>(
     rt: &W,
     alloc: Global,
@@ -42,9 +42,25 @@ pub fn serve_session<W: Wait, D: Desk, S: Source, K: Sink, C: Clock, G: Gate>(
     // What the session read, answered and wrote, and what its caller has seen afterwards.
     ensures serves { ServesAmong
         (record { realm = (D.shared desk.now).realm; first = (D.Pass.seen pass).views; fixed = mode.fixed })
-        (record { left = S.left source.old; held = K.held sink.old; told = C.told clock.old; read_faults = S.faults source.old; write_faults = K.faults sink.old })
-        (record { left = S.left source.new; held = K.held sink.new; told = C.told clock.new; read_faults = S.faults source.new; write_faults = K.faults sink.new })
-        (record { moments = result.moments.items; places = map (λ v. v.items) result.places.items; cuts = result.cuts.items })
+        (record {
+          left = S.left source.old;
+          held = K.held sink.old;
+          told = C.told clock.old;
+          read_faults = S.faults source.old;
+          write_faults = K.faults sink.old;
+        })
+        (record {
+          left = S.left source.new;
+          held = K.held sink.new;
+          told = C.told clock.new;
+          read_faults = S.faults source.new;
+          write_faults = K.faults sink.new;
+        })
+        (record {
+          moments = result.moments.items;
+          places = map (λ v. v.items) result.places.items;
+          cuts = result.cuts.items;
+        })
         (D.Pass.seen result.pass).views result.end }
     ensures of { IsOf (D.shared desk.now) (D.Pass.seen result.pass) }
 

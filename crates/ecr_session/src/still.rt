@@ -16,9 +16,9 @@ use std::alloc::Global;
 
 /// Serves the requests of the source by the desk until the session ends, and says how.
 ///
-/// Each reply is written as soon as its request was answered, and a request's moment is taken once it was read whole. The
-/// room for what the session says of a request is taken before the request is read. A request that finds no memory is
-/// answered by the fixed reply, the turns that it made stay, and the session goes on.
+/// Each reply is written as soon as its request was answered, and a request's moment is taken once it was read whole.
+/// The room for what the session says of a request is taken before the request is read. A request that finds no memory
+/// is answered by the fixed reply, the turns that it made stay, and the session goes on.
 pub fn session_still<D: StillDesk, S: Source, K: Sink, C: Clock>(
     alloc: Global,
     desk: &mut D,
@@ -33,9 +33,25 @@ pub fn session_still<D: StillDesk, S: Source, K: Sink, C: Clock>(
     // What the session read, answered and wrote, and what is on the desk afterwards.
     ensures serves { Serves
         (record { realm = (D.seen desk.old).realm; first = (still_of (D.seen desk.old)).world; fixed = mode.fixed })
-        (record { left = S.left source.old; held = K.held sink.old; told = C.told clock.old; read_faults = S.faults source.old; write_faults = K.faults sink.old })
-        (record { left = S.left source.new; held = K.held sink.new; told = C.told clock.new; read_faults = S.faults source.new; write_faults = K.faults sink.new })
-        (record { moments = result.moments.items; places = map (λ v. v.items) result.places.items; cuts = result.cuts.items })
+        (record {
+          left = S.left source.old;
+          held = K.held sink.old;
+          told = C.told clock.old;
+          read_faults = S.faults source.old;
+          write_faults = K.faults sink.old;
+        })
+        (record {
+          left = S.left source.new;
+          held = K.held sink.new;
+          told = C.told clock.new;
+          read_faults = S.faults source.new;
+          write_faults = K.faults sink.new;
+        })
+        (record {
+          moments = result.moments.items;
+          places = map (λ v. v.items) result.places.items;
+          cuts = result.cuts.items;
+        })
         (still_of (D.seen desk.new)).world result.end }
     ensures realm_stays { (D.seen desk.new).realm ≡ (D.seen desk.old).realm }
 

@@ -10,8 +10,8 @@ use ecr_desk::AnyDesk;
 use ecr_model::{Call, Digest, Mem, Moment, Place, Reply, RepoKey, SiteCall, SiteId, SiteReply};
 use std::alloc::Global;
 
-/// The reply to a call with the content that it names, and the digest of all parts with which an upload's completion was
-/// decided; none of another call.
+/// The reply to a call with the content that it names, and the digest of all parts with which an upload's completion
+/// was decided; none of another call.
 #[derive(Drop)]
 pub(crate) struct Decided {
     pub reply: Reply,

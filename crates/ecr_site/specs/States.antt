@@ -1,5 +1,5 @@
--- A site's directory as contracts see it: its journal, and what is fixed throughout. Of this registry: docs/DECISIONS.md,
--- "Directories".
+-- A site's directory as contracts see it: its journal, and what is fixed throughout. Of this registry:
+-- docs/DECISIONS.md, "Directories".
 use Rattle.std.specs.Prelude.{◌≡◌, ℕ, List, [], ◌∷◌, ◌++◌}
 use Rattle.ecr_model.specs.declared.requests.call.SiteCall.{SiteCall}
 use Rattle.ecr_model.specs.declared.registry.directory.Directory.{Directory}

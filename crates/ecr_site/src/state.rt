@@ -26,10 +26,16 @@ impl Model for SiteState {
 
     ghost Value = { SiteJournal };
 
-    ghost view = { λ s. record { site = s.site; served = s.served.items; limits = s.limits; journal = s.journal.items } };
+    ghost view = { λ s. record {
+      site = s.site;
+      served = s.served.items;
+      limits = s.limits;
+      journal = s.journal.items;
+    } };
 
     // The names are kept in their order, so that no call replays the journal.
-    ghost invariant = { λ s. AreNamesOf (record { site = s.site; served = s.served.items; limits = s.limits }) s.journal.items s.names.keys };
+    ghost invariant = { λ s. AreNamesOf
+        (record { site = s.site; served = s.served.items; limits = s.limits }) s.journal.items s.names.keys };
 }
 
 impl SiteState {
@@ -67,8 +73,9 @@ impl SiteState {
         self.names.contains(name)
     }
 
-    /// At most `max` of the names in the order of their bytes, from the one at the place `from` on, counted from 0. There
-    /// are more where `from + max` is below [`SiteState::count`]. The names before them are stepped over one by one.
+    /// At most `max` of the names in the order of their bytes, from the one at the place `from` on, counted from 0.
+    /// There are more where `from + max` is below [`SiteState::count`]. The names before them are stepped over one by
+    /// one.
     pub fn names(&self, alloc: Global, from: u64, max: u32) -> Result<Vec<Name>, Mem>
         ensures page { IfOk result
             (λ v. v.items ≡ names_of (record { from = from; max = max }) (directory_of self.now)) }

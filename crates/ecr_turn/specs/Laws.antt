@@ -45,7 +45,8 @@ ATurnAddsItsOwn =
     ⊎ ((l : Line) × (after ≡ before ++ l ∷ []) × (l.ticket ≡ ticket)
     × (of_caller caller after ≡ of_caller caller before ++ l ∷ []))
 
--- passes that are split one after another from a pass that forgets none of their numbers have rising numbers, so that no two are the same
+-- passes that are split one after another from a pass that forgets none of their numbers have rising numbers, so that
+-- no two are the same
 abbrev pub SplitsRise : Type 0
 SplitsRise =
     (before after later last one two : Known) → IsNewCaller before after one → after.callers ≤ later.callers

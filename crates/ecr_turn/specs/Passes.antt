@@ -10,7 +10,8 @@ pub record Gate : Type 0 where
   pub table : TableId
   pub frame : Frame
 
--- the knowledge of a pass: its turnstile, the number of its caller, how many callers' numbers are given out, one more than the last ticket that it knows to be passed on, and the journal that it has seen
+-- the knowledge of a pass: its turnstile, the number of its caller, how many callers' numbers are given out, one more
+-- than the last ticket that it knows to be passed on, and the journal that it has seen
 pub record Known : Type 0 where
   pub gate : Gate
   pub caller : ℕ
@@ -36,7 +37,8 @@ IsSamePass p q = (q.gate ≡ p.gate) × (q.caller ≡ p.caller) × (p.callers �
 abbrev pub IsAsWise : Known → Known → Type 0
 IsAsWise p q = (q.gate ≡ p.gate) × (q.past ≡ p.past) × (q.seen ≡ p.seen)
 
--- a pass is split: the number of the new one is none that the pass knew to be given out, and afterwards both know that it is
+-- a pass is split: the number of the new one is none that the pass knew to be given out, and afterwards both know that
+-- it is
 abbrev pub IsNewCaller : Known → Known → Known → Type 0
 IsNewCaller before after new = (before.callers ≤ new.caller) × (new.callers ≡ new.caller + 1)
     × (after.callers ≡ new.caller + 1)

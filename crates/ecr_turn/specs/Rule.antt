@@ -1,4 +1,5 @@
--- The rule of the table below a turnstile, as each step keeps it: one order of turns, and one journal that every pass has seen a beginning of.
+-- The rule of the table below a turnstile, as each step keeps it: one order of turns, and one journal that every pass
+-- has seen a beginning of.
 use Rattle.std.specs.Prelude.{◌≡◌, ◌≢◌, ℕ, suc, ◌<◌, ◌≤◌, Bool, true, false, List, [], ◌∷◌, length, Option, Some}
 use mathlib.Core.Option.{some, none}
 use mathlib.Core.Option as maybe

@@ -39,7 +39,8 @@ module _ {B : Type 0} where
   IsSameSeat s t = (t.table_id ≡ s.table_id) × (t.me.0.caller ≡ s.me.0.caller) × (t.me.0.frame ≡ s.me.0.frame)
       × (s.me.0.callers ≤ t.me.0.callers)
 
-  -- the state is back in its slot, and the journal that the pass has seen is its journal, but for one entry where it grew
+  -- the state is back in its slot, and the journal that the pass has seen is its journal, but for one entry where it
+  -- grew
   pub record IsBack (lines : B → List Line) (frame : B → Frame) (s : Seat (Option B) View) (ticket : ℕ)
       (grown : Bool) : Type 0 where
     pub state : B

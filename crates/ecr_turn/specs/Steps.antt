@@ -135,7 +135,8 @@ merged v = record {
 module _ {B : Type 0} where
   -- the number of a caller to come, whom no entry names, and which the pass didn't know to be given out
   abbrev pub drew_number : At B → Mine B → ℕ → Mine B → Type 0
-  drew_number st m r m' = (r ≡ st.first → (m' ≡ (naming r m.0, m.1)) × (r ≢ m.0.caller) × Each (λ l. l.caller ≢ r) m.0.seen
+  drew_number st m r m' =
+      (r ≡ st.first → (m' ≡ (naming r m.0, m.1)) × (r ≢ m.0.caller) × Each (λ l. l.caller ≢ r) m.0.seen
       × (m.0.callers ≤ r)) × (r ≢ st.first → m' ≡ m)
 
   -- the joined pass is taken in: the longer journal, and the greater `past`

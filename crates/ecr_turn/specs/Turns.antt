@@ -1,4 +1,5 @@
--- The rule of a turnstile in seven points, which hold between any two steps. A pass that was joined to another counts no more.
+-- The rule of a turnstile in seven points, which hold between any two steps. A pass that was joined to another counts
+-- no more.
 use Rattle.std.specs.Prelude.{◌≡◌, ◌≢◌, ◌⊎◌, ℕ, suc, ◌<◌, ◌≤◌, Bool, true, false, List, [], length, Option, Some, None}
 use mathlib.Core.Option.{some}
 use mathlib.Core.Option as maybe
@@ -128,7 +129,8 @@ pub record Numbers : Type 0 where
   pub serving : ℕ
   pub callers : ℕ
 
--- 1: each ticket from the one that is served on, and none else, is one pass's, and only the served one's pass may be in its turn
+-- 1: each ticket from the one that is served on, and none else, is one pass's, and only the served one's pass may be in
+-- its turn
 pub record ServesInOrder (n : Numbers) (passes : List View) : Type 0 where
   pub begun : n.serving ≤ n.tickets
   pub held : (t : ℕ) → n.serving ≤ t → t < n.tickets → SomeOne (HasTicket t) passes
@@ -136,7 +138,8 @@ pub record ServesInOrder (n : Numbers) (passes : List View) : Type 0 where
   pub drawn : Every (λ v. (t : ℕ) → HasTicket t v → (n.serving ≤ t) × (t < n.tickets)) passes
   pub turn : Every (λ v. in_turn v.stage ≡ true → HasTicket n.serving v) passes
 
--- 2: of two journals that passes have seen one is a beginning of the other, and the longest has as many entries as are counted
+-- 2: of two journals that passes have seen one is a beginning of the other, and the longest has as many entries as are
+-- counted
 pub record HasOneJournal (n : Numbers) (passes : List View) (journal : List Line) : Type 0 where
   pub beginnings : Every (λ v. is_live v.stage ≡ true → IsBeginning v.seen journal) passes
   pub ordered : Every (λ v. is_live v.stage ≡ true
@@ -150,7 +153,8 @@ pub record TicketsRise (n : Numbers) (passes : List View) (journal : List Line) 
   pub recorded : Each (λ l. (l.ticket < n.serving)
       ⊎ ((l.ticket ≡ n.serving) × SomeOne (λ v. (has_recorded v.stage ≡ true) × HasTicket n.serving v) passes)) journal
 
--- 4: callers' numbers, and those of callers to come, all differ; no entry has the number of a caller to come; and a pass has seen all entries of its own number, and knows of no more callers than there are
+-- 4: callers' numbers, and those of callers to come, all differ; no entry has the number of a caller to come; and a
+-- pass has seen all entries of its own number, and knows of no more callers than there are
 pub record CallersDiffer (n : Numbers) (passes : List View) (journal : List Line) : Type 0 where
   pub once : (m : ℕ) → One (HasNumber m) passes
   pub given : Every (λ v. (m : ℕ) → HasNumber m v → m < n.callers) passes

@@ -7,7 +7,8 @@ use crate::journal::Journal;
 
 /// Of each table that keeps the rule of a turnstile the seven points hold.
 pub fn the_rule_is_the_seven_points<S: Journal>()
-    ensures points { TheRuleIsTheSevenPoints (λ (b : Box S Global). S.lines b.value) (λ (b : Box S Global). S.frame b.value) }
+    ensures points { TheRuleIsTheSevenPoints (λ (b : Box S Global). S.lines b.value)
+        (λ (b : Box S Global). S.frame b.value) }
 {}
 
 /// What stood below a ticket that was passed on stands there in every later journal.

@@ -1,5 +1,5 @@
-//! The program of the registry. It gives the command its words, standard input, standard output, the system's clock and, for
-//! a server, the network, and ends with the command's status.
+//! The program of the registry. It gives the command its words, standard input, standard output, the system's clock
+//! and, for a server, the network, and ends with the command's status.
 #![tactic(auto)]
 
 use ecr_outside::{OpenGate, RealAccept, RealClock, RealClocks, RealSink, RealSource, Sink};

@@ -35,8 +35,8 @@ use std::sync::Wait;
 // The turnstile of each site's directory.
 type Gates = BTreeMap<SiteId, Turnstile<SharedDirectory>>;
 
-/// A registry in memory that many callers use at once, each with a [`DeskPass`]. Contracts see the sites and limits, and
-/// which turnstile each site's directory has.
+/// A registry in memory that many callers use at once, each with a [`DeskPass`]. Contracts see the sites and limits,
+/// and which turnstile each site's directory has.
 #[derive(Drop)]
 pub struct SharedDesk {
     served: Listed<SiteId>,
@@ -55,8 +55,8 @@ impl Model for SharedDesk {
 }
 
 impl SharedDesk {
-    /// A registry that serves these sites, with no name, and the first pass to it. A site that stands twice among them is
-    /// one.
+    /// A registry that serves these sites, with no name, and the first pass to it. A site that stands twice among them
+    /// is one.
     pub fn new(
         alloc: Global,
         sites: Vec<SiteId>,
@@ -103,9 +103,9 @@ impl SharedDesk {
         Ok(DeskPass::new(splits))
     }
 
-    /// Takes the turn of a repository, passes the gate in it at [`InTurn`](ecr_outside::Stage::InTurn), and leaves it without
-    /// an entry. It tells the turn's place. A name that isn't registered has no such turn, and the place is that of the
-    /// directory's turn before it.
+    /// Takes the turn of a repository, passes the gate in it at [`InTurn`](ecr_outside::Stage::InTurn), and leaves it
+    /// without an entry. It tells the turn's place. A name that isn't registered has no such turn, and the place is
+    /// that of the directory's turn before it.
     ///
     /// So a test may keep others waiting for the repository.
     pub fn hold<W: Wait, G: Gate>(
@@ -222,8 +222,8 @@ impl SharedDesk {
         pass.in_directory(turnstile, rt, alloc, site, deed, Some(key))
     }
 
-    // The rest of the call: where the name is registered, the turn in the repository, through that door or the one that the
-    // caller has.
+    // The rest of the call: where the name is registered, the turn in the repository, through that door or the one that
+    // the caller has.
     fn then_cell<W: Wait>(
         &self,
         rt: &W,

@@ -19,8 +19,8 @@ use std::collections::BTreeMap;
 use std::marker::Model;
 use std::sync::Wait;
 
-/// A site's directory, with a door to each repository that a caller has asked for: those of callers are split from these.
-/// Contracts see the directory, and what the doors know.
+/// A site's directory, with a door to each repository that a caller has asked for: those of callers are split from
+/// these. Contracts see the directory, and what the doors know.
 #[derive(Drop)]
 pub(crate) struct SharedDirectory {
     limits: Limits,
@@ -77,8 +77,8 @@ impl SharedDirectory {
         }
     }
 
-    /// Makes the turn of that ticket in the directory. A wanted repository whose name is registered then comes with a door,
-    /// for which there may be no memory. Without memory for the turn the directory is as before.
+    /// Makes the turn of that ticket in the directory. A wanted repository whose name is registered then comes with a
+    /// door, for which there may be no memory. Without memory for the turn the directory is as before.
     pub(crate) fn make<W: Wait>(
         &mut self,
         rt: &W,

@@ -72,7 +72,8 @@ impl Door {
         }
     }
 
-    /// Makes a turn in the repository of that key, after the pause in it. Without memory the turn is left without an entry.
+    /// Makes a turn in the repository of that key, after the pause in it. Without memory the turn is left without an
+    /// entry.
     pub(crate) fn make<W: Wait, P: Pause>(
         &mut self,
         rt: &W,

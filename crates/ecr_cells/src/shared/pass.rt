@@ -28,8 +28,8 @@ use std::sync::Wait;
 /// A caller's passes at each site.
 pub(crate) type Passes = BTreeMap<SiteId, SitePass>;
 
-/// The right to use a [`SharedDesk`](crate::SharedDesk): the passes of one caller. Contracts see what they know, and how
-/// many entries the caller has added.
+/// The right to use a [`SharedDesk`](crate::SharedDesk): the passes of one caller. Contracts see what they know, and
+/// how many entries the caller has added.
 #[derive(Drop)]
 pub struct DeskPass {
     sites: Passes,
@@ -101,9 +101,9 @@ impl DeskPass {
         self.made
     }
 
-    /// Makes a turn in a site's directory, for a call on that repository or on the site, and counts its entry. Where the name
-    /// is registered, the caller gets a door to a repository to which it has none; there may be no memory for that. Without
-    /// memory for the turn it is left without an entry.
+    /// Makes a turn in a site's directory, for a call on that repository or on the site, and counts its entry. Where
+    /// the name is registered, the caller gets a door to a repository to which it has none; there may be no memory for
+    /// that. Without memory for the turn it is left without an entry.
     pub(crate) fn in_directory<W: Wait>(
         &mut self,
         turnstile: &Turnstile<SharedDirectory>,
@@ -143,8 +143,8 @@ impl DeskPass {
         }
     }
 
-    /// Makes a turn in a repository, through that door or the one that the caller has, and counts its entry. Without memory
-    /// it is left without an entry.
+    /// Makes a turn in a repository, through that door or the one that the caller has, and counts its entry. Without
+    /// memory it is left without an entry.
     pub(crate) fn in_repository<W: Wait, P: Pause>(
         &mut self,
         rt: &W,

@@ -22,8 +22,8 @@ use std::collections::BTreeMap;
 use std::marker::Model;
 use std::sync::Wait;
 
-/// What a caller has of a site: the pass to its directory, which is away only in a turn, and a door to each repository in
-/// which it had a turn. Contracts see what these know.
+/// What a caller has of a site: the pass to its directory, which is away only in a turn, and a door to each repository
+/// in which it had a turn. Contracts see what these know.
 #[derive(Drop)]
 pub(crate) struct SitePass {
     pass: Option<Pass<SharedDirectory>>,
@@ -100,9 +100,9 @@ impl SitePass {
         }
     }
 
-    /// Makes a turn in the directory of that site, for a call on that repository or on the site. Where the name is registered,
-    /// the caller gets a door to a repository to which it has none; there may be no memory for that. Without memory for the
-    /// turn it is left without an entry.
+    /// Makes a turn in the directory of that site, for a call on that repository or on the site. Where the name is
+    /// registered, the caller gets a door to a repository to which it has none; there may be no memory for that.
+    /// Without memory for the turn it is left without an entry.
     pub(crate) fn in_directory<W: Wait>(
         &mut self,
         turnstile: &Turnstile<SharedDirectory>,
@@ -140,8 +140,8 @@ impl SitePass {
         Ok((done, place, door))
     }
 
-    /// Makes a turn in a repository, through that door or the one that the caller has. Without memory it is left without an
-    /// entry.
+    /// Makes a turn in a repository, through that door or the one that the caller has. Without memory it is left
+    /// without an entry.
     pub(crate) fn in_repository<W: Wait, P: Pause>(
         &mut self,
         rt: &W,

@@ -139,8 +139,8 @@ fn at_work<R: Wait>(
     (pass, told)
 }
 
-// A desk that threads work at. What they do is one call here, so that a thread needs to know of the desk and its pass only
-// that they may cross to it.
+// A desk that threads work at. What they do is one call here, so that a thread needs to know of the desk and its pass
+// only that they may cross to it.
 trait Workplace: Desk {
     /// The work of one thread.
     fn work<R: Wait>(

@@ -77,5 +77,6 @@ pub record RepliesAreWritten : Type 0 where
   pub rows : json (many home None (record { from = 0; max = 1 }))
       (replies.Described (record { name = name (codes "a1"); created = 7; mutability = Immutable } ∷ [])
       (Some 1)) [] false
-      ≡ codes "HTTP/1.1 200 OK" ++ crlf ++ codes "Content-Length: 266" ++ crlf ++ codes "Content-Type: application/x-amz-json-1.1" ++ crlf ++ crlf
+      ≡ codes "HTTP/1.1 200 OK" ++ crlf ++ codes "Content-Length: 266" ++ crlf
+      ++ codes "Content-Type: application/x-amz-json-1.1" ++ crlf ++ crlf
       ++ codes "{\"nextToken\":\"1\",\"repositories\":[{\"createdAt\":7,\"imageTagMutability\":\"IMMUTABLE\",\"registryId\":\"111122223333\",\"repositoryArn\":\"arn:aws:ecr:us-east-1:111122223333:repository/a1\",\"repositoryName\":\"a1\",\"repositoryUri\":\"111122223333.dkr.ecr.us-east-1.amazonaws.com/a1\"}]}"

@@ -63,8 +63,8 @@ pub record ARepositoryComesAndGoes : Type 0 where
 abbrev pub middle : List Line
 middle = line_of 0 (turn 1 1700000001) (SetMutability Immutable) ∷ line_of 3 (turn 5 1700000002) (Delete false) ∷ []
 
--- the line at the first ticket is among those between, the line at the second isn't; they lead from the state as at the one
--- to that as at the other
+-- the line at the first ticket is among those between, the line at the second isn't; they lead from the state as at the
+-- one to that as at the other
 pub record LinesStandBetween : Type 0 where
   pub are : between 1 6 history ≡ middle
   pub none : between 2 5 history ≡ []

@@ -20,8 +20,8 @@ module _ (A : Type 0) where
       → Halts terms was now script made → AreAhead now later
       → AreFirstTurns terms.realm (journals_of later) script made
 
-  -- in each cell the caller's own lines are those before, and then those that the turns enter over all journals that are
-  -- seen later
+  -- in each cell the caller's own lines are those before, and then those that the turns enter over all journals that
+  -- are seen later
   abbrev pub EntriesStay : Type 0
   EntriesStay = (terms : Terms) (was now later : Views) (script : Script A) (made : List PlacedTurn)
       → Halts terms was now script made → AreAhead now later → (cell : CellKey)
@@ -39,8 +39,8 @@ PlacesRise = (journals : Journals) (first last : StandingOf Views) (exchanges : 
     → AreServedAmong journals first exchanges last
     → AreBetween first.world last.world (all_places (account_of exchanges).places)
 
--- the bytes that were read, the account of the answered requests and the journals that were seen at last decide the requests,
--- how the bytes go on, and all that is written
+-- the bytes that were read, the account of the answered requests and the journals that were seen at last decide the
+-- requests, how the bytes go on, and all that is written
 abbrev pub OutputIsDecided : Type 0
 OutputIsDecided =
     (journals : Journals) (first last another other : StandingOf Views) (exchanges others : List Exchange)
@@ -76,8 +76,8 @@ pub record IsOwnSince (was now : Option View) : Type 0 where
 abbrev pub NobodyElse : Views → Views → Type 0
 NobodyElse was now = (cell : CellKey) → IsOwnSince (was cell) (now cell)
 
--- over journals that nobody else changes meanwhile, a session among others writes the same as one of a caller that is alone,
--- from journals with the same entries on, and leaves the same entries
+-- over journals that nobody else changes meanwhile, a session among others writes the same as one of a caller that is
+-- alone, from journals with the same entries on, and leaves the same entries
 abbrev pub OutputIsStill : Type 0
 OutputIsStill =
     (first last : StandingOf Views) (begin finish : Standing) (exchanges others : List Exchange)

@@ -24,8 +24,8 @@ pub record RunsThen {A B : Type 0} (realm : Realm) (world : World) (script : Scr
   pub answer_is : (run realm world (then_do script next)).answer ≡
       (run realm (run realm world script).world (next (run realm world script).answer)).answer
 
--- whatever the journals are: where CreateRepository is answered as created, the repository's journal has that creation once
--- more than before, behind all its other lines
+-- whatever the journals are: where CreateRepository is answered as created, the repository's journal has that creation
+-- once more than before, behind all its other lines
 abbrev pub ACreationIsKept : Type 0
 ACreationIsKept = (realm : Realm) (world : World) (key : RepoKey) (mutability shown : Mutability)
     (given : Option (List ℕ)) (moment created : ℕ)
@@ -34,8 +34,8 @@ ACreationIsKept = (realm : Realm) (world : World) (key : RepoKey) (mutability sh
     ≡ world.journals (Repository key)
     ++ line_of 0 (turn_of (next_ticket world (Repository key)) None (beside_of given moment)) (Create mutability) ∷ []
 
--- whatever the journals are: a call is answered that there is no such repository only where the name isn't registered in the
--- site's directory as at its ticket there, or the repository is absent as at its ticket
+-- whatever the journals are: a call is answered that there is no such repository only where the name isn't registered
+-- in the site's directory as at its ticket there, or the repository is absent as at its ticket
 abbrev pub NotFoundHasItsCause : Type 0
 NotFoundHasItsCause = (realm : Realm) (world : World) (key : RepoKey) (call : Call) (given : Option (List ℕ))
     (moment : ℕ)

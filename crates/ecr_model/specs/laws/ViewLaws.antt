@@ -37,8 +37,8 @@ module _ (A : Type 0) where
       → Visits terms was now script made answer → AreAhead now later
       → answer_at terms.realm (journals_of later) script made ≡ Some answer
 
-  -- in each cell the caller's own lines are those before, and then those that the script's turns enter, each once and in
-  -- order
+  -- in each cell the caller's own lines are those before, and then those that the script's turns enter, each once and
+  -- in order
   abbrev pub OwnLinesAreEntered : Type 0
   OwnLinesAreEntered = (terms : Terms) (was now : Views) (script : Script A) (made : List PlacedTurn) (answer : A)
       → Visits terms was now script made answer → (cell : CellKey)

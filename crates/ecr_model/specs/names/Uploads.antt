@@ -1,5 +1,5 @@
--- The ids of uploads (of this registry): an upload's number in 32 lower-case hexadecimal digits, in groups of 8, 4, 4, 4
--- and 12. Numbers count from 1 in each repository's name.
+-- The ids of uploads (of this registry): an upload's number in 32 lower-case hexadecimal digits, in groups of 8, 4, 4,
+-- 4 and 12. Numbers count from 1 in each repository's name.
 use Rattle.std.specs.Prelude.{ℕ, List, ◌++◌, take, drop, codes}
 use Rattle.std.specs.Int.{bytes_high_first}
 use Rattle.hex.specs.Hex.{encode_lower}

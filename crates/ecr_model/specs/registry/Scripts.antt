@@ -1,5 +1,5 @@
--- Scripts: the turns of a request in its cells, one after another, each of which tells something, and then an answer. Of
--- this registry: docs/DECISIONS.md, "Scripts". Tickets count from 0; moments are in seconds.
+-- Scripts: the turns of a request in its cells, one after another, each of which tells something, and then an answer.
+-- Of this registry: docs/DECISIONS.md, "Scripts". Tickets count from 0; moments are in seconds.
 use Rattle.std.specs.Prelude.{ℕ, zero, suc, ◌+◌, ◌-◌, Bool, false, List, [], ◌∷◌, ◌++◌, Option, None, Some, is_some, if◌then◌else◌, ◌&&◌, ◌==◌, bytes_eq, option_map}
 use Rattle.std.specs.List.{list_any}
 use Rattle.ecr_model.specs.declared.requests.call.Call.{Call}

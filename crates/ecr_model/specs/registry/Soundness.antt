@@ -1,5 +1,5 @@
--- Sound journals of all cells, and the places of turns in them. Of this registry: docs/DECISIONS.md, "Journals". Tickets
--- count from 0.
+-- Sound journals of all cells, and the places of turns in them. Of this registry: docs/DECISIONS.md, "Journals".
+-- Tickets count from 0.
 use Rattle.std.specs.Prelude.{◌≡◌, ◌≤◌, ◌<◌, ℕ, true, All, List, [], ◌∷◌}
 use Rattle.ecr_model.specs.declared.registry.journal.CellKey.{CellKey}
 use Rattle.ecr_model.specs.declared.registry.journal.CellKey.TheVariants.{Directory, Repository}

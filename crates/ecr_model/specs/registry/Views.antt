@@ -1,5 +1,5 @@
--- Views: what a caller's pass knows of each cell, and what the turns of a script leave in it. They are stated alike for a
--- caller that is alone and for one among many. Of this registry: docs/DECISIONS.md, "Views". Tickets count from 0.
+-- Views: what a caller's pass knows of each cell, and what the turns of a script leave in it. They are stated alike for
+-- a caller that is alone and for one among many. Of this registry: docs/DECISIONS.md, "Views". Tickets count from 0.
 use Rattle.std.specs.Prelude.{◌≡◌, ◌≢◌, ◌≤◌, ◌⊎◌, ℕ, ◌+◌, Bool, true, false, List, [], ◌∷◌, ◌++◌, map, filter, nat_eq, Option, None, Some, is_some, if◌then◌else◌}
 use Rattle.ecr_model.specs.declared.registry.journal.CellKey.{CellKey}
 use Rattle.ecr_model.specs.declared.registry.journal.Entry.{Entry}
@@ -10,8 +10,8 @@ use Rattle.ecr_model.specs.registry.Growth.{Each, Rises, Follows}
 use Rattle.ecr_model.specs.registry.Journals.{past}
 use Rattle.ecr_model.specs.registry.Scripts.{Ask, Script, ends, turn, Realm, Turned, Journals, turn_at, same_cell}
 
--- a caller's view of a cell: its number there, the least ticket that its next turn there may have, and the journal that it
--- has seen
+-- a caller's view of a cell: its number there, the least ticket that its next turn there may have, and the journal that
+-- it has seen
 pub record View : Type 0 where
   pub caller : ℕ
   pub past : ℕ
@@ -46,7 +46,8 @@ with_view views cell view = λ k. if same_cell cell k then Some view else views 
 
 -- ---- one turn
 
--- the sites and limits, and whether the caller is alone: then its turns follow one another, with no other turn between them
+-- the sites and limits, and whether the caller is alone: then its turns follow one another, with no other turn between
+-- them
 pub record Terms : Type 0 where
   pub realm : Realm
   pub alone : Bool
@@ -83,8 +84,8 @@ KeepsCaller None now = Unit {0}
 KeepsCaller (Some was) None = ⊥
 KeepsCaller (Some was) (Some now) = now.caller ≡ was.caller
 
--- the journal that is seen now is the one before, then lines of other callers, none with a ticket below the earlier `past`,
--- and then these lines of the caller's own
+-- the journal that is seen now is the one before, then lines of other callers, none with a ticket below the earlier
+-- `past`, and then these lines of the caller's own
 pub record ExtendsView (was : Option View) (now : View) (own : List Line) : Type 0 where
   pub others : List Line
   pub longer : now.seen ≡ (seen_of was ++ others) ++ own
@@ -99,8 +100,8 @@ pub record IsNext (was : Option View) (now : View) (others : List Line) (ticket 
   pub next : ticket ≡ past_of was
   pub at_end : now.past ≡ past now.seen
 
--- a turn in a cell was made at that place: its line, if it has one, stands behind all that came before it. Among callers
--- its ticket is used up; a caller that is alone uses that of a turn without an entry again
+-- a turn in a cell was made at that place: its line, if it has one, stands behind all that came before it. Among
+-- callers its ticket is used up; a caller that is alone uses that of a turn without an entry again
 pub record Visit (terms : Terms) (was : Option View) (now : View) (cell : CellKey) (ask : Ask)
     (made : PlacedTurn) : Type 0 where
   pub cell_is : made.place.cell ≡ cell

@@ -1,6 +1,6 @@
--- The members of a request's body: their values, read once by their JSON types, and which of these are allowed (RFC 8259;
--- Amazon ECR API Reference, the actions' request parameters). Null counts as absent (of this registry: docs/DECISIONS.md,
--- "Null").
+-- The members of a request's body: their values, read once by their JSON types, and which of these are allowed (RFC
+-- 8259; Amazon ECR API Reference, the actions' request parameters). Null counts as absent (of this registry:
+-- docs/DECISIONS.md, "Null").
 use Rattle.std.specs.Prelude.{ℕ, ◌+◌, ◌*◌, ◌-◌, ◌^◌, ℤ, pos, negsuc, Bool, true, false, not, ◌&&◌, ◌||◌, ◌==◌, nat_lt, nat_le, List, [], ◌∷◌, length, fold, Option, None, Some, is_some, if◌then◌else◌, find, codes, bytes_eq, option_map, option_and_then}
 use Rattle.std.specs.List.{list_all}
 use Rattle.std.specs.Option.{option_map_or}
@@ -26,7 +26,8 @@ unless_null value = if is_some (as_null value) then None else Some value
 abbrev pub member_at : List ℕ → Data → Option Data
 member_at name value = option_and_then unless_null (get name value)
 
--- the whole number that the value is; one that is written with a fraction or an exponent isn't whole (RFC 8259, section 6)
+-- the whole number that the value is; one that is written with a fraction or an exponent isn't whole (RFC 8259, section
+-- 6)
 abbrev pub as_whole : Data → Option ℤ
 as_whole value = option_and_then as_integer (as_number value)
 
@@ -168,7 +169,8 @@ allows base served domains.Token value = is_some (option_and_then token_place (t
 abbrev pub stands_beside : List Valued → Option Parameter → Bool
 stands_beside values other = option_map_or (λ parameter. is_there (value_at parameter values)) other false
 
--- whether the member is absent where it must be there, is out of its domain, or stands beside one from which it is apart
+-- whether the member is absent where it must be there, is out of its domain, or stands beside one from which it is
+-- apart
 abbrev pub is_bad : SiteId → List SiteId → List Valued → Valued → Bool
 is_bad base served values v = if is_there v.value
     then not (allows base served v.member.domain v.value) || stands_beside values v.member.apart

@@ -1,5 +1,5 @@
--- Replies of the JSON API as bytes (Amazon ECR API Reference; RFC 8259). Keys stand in byte order, and moments are whole
--- seconds. A text that isn't UTF-8 is rendered as the empty one.
+-- Replies of the JSON API as bytes (Amazon ECR API Reference; RFC 8259). Keys stand in byte order, and moments are
+-- whole seconds. A text that isn't UTF-8 is rendered as the empty one.
 use Rattle.std.specs.Prelude.{ℕ, Bool, List, [], ◌∷◌, ◌++◌, length, Option, None, Some, codes, decimal}
 use Rattle.serde_json.specs.Data.{Data, number, unsigned, string, array, object, Items, no_items, item, Members, member, no_members}
 use Rattle.serde_json.specs.Written.{compact_text}

@@ -63,8 +63,8 @@ then_cell key c given moment (registered (Full limit count)) = ends (plain (Refu
 then_cell key c given moment (registered _) = cell_turn key c given moment
 then_cell key c given moment _ = ends (plain (Refused RepositoryNotFound))
 
--- a call on a repository with the content that comes with it: a turn in its site's directory, and then, where the name is
--- registered, one in the repository
+-- a call on a repository with the content that comes with it: a turn in its site's directory, and then, where the name
+-- is registered, one in the repository
 unfoldable pub call_script : RepoKey → Call → Option (List ℕ) → ℕ → Script Decided
 call_script key c given moment = then_do (first_turn key c) (then_cell key c given moment)
 

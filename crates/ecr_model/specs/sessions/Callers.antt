@@ -1,5 +1,6 @@
--- A session of one caller among many: its turns, its replies and its entries, over the journals that the caller has seen at
--- last. Of this registry: docs/DECISIONS.md, "A session among others". Tickets count from 0; moments are in seconds.
+-- A session of one caller among many: its turns, its replies and its entries, over the journals that the caller has
+-- seen at last. Of this registry: docs/DECISIONS.md, "A session among others". Tickets count from 0; moments are in
+-- seconds.
 use Rattle.std.specs.Prelude.{◌≡◌, ◌≤◌, ◌<◌, ◌⊎◌, true, false, All, List, [], ◌∷◌, ◌++◌, None, Some, is_some}
 use Rattle.ecr_model.specs.declared.registry.journal.CellKey.{CellKey}
 use Rattle.ecr_model.specs.declared.registry.journal.Place.{Place}
@@ -42,7 +43,8 @@ pub record IsAnsweredAt (realm : Realm) (journals : Journals) (e : Exchange) (tu
   pub served : e.cut.failed ≡ false
   pub sealed : e.cut.sealed ≡ answer.sealed
 
--- there was no memory for more turns, or for the reply: the reply is the fixed one, and the places are the first of theirs
+-- there was no memory for more turns, or for the reply: the reply is the fixed one, and the places are the first of
+-- theirs
 pub record IsFailedAt (e : Exchange) (turns : List PlacedTurn) : Type 0 where
   pub rest : List Place
   pub placed : places_of turns ≡ e.places ++ rest
@@ -76,8 +78,8 @@ AreBetween was now (place ∷ places) =
 
 -- ---- a session
 
--- a request was answered by its turns, which were made in these views, and over the journals that were seen at last; in each
--- cell the caller's own lines are those before, and then those that these turns entered, each once and in order
+-- a request was answered by its turns, which were made in these views, and over the journals that were seen at last; in
+-- each cell the caller's own lines are those before, and then those that these turns entered, each once and in order
 pub record IsServedAmong (journals : Journals) (was : StandingOf Views) (e : Exchange) (now : StandingOf Views)
     : Type 0 where
   pub realm_stays : now.realm ≡ was.realm
@@ -95,8 +97,8 @@ pub record IsServedAmong (journals : Journals) (was : StandingOf Views) (e : Exc
 abbrev pub AreServedAmong : Journals → StandingOf Views → List Exchange → StandingOf Views → Type 0
 AreServedAmong journals first exchanges last = Chain (IsServedAmong journals) first exchanges last
 
--- a session of one caller among many, from its end: each of its requests was answered over the journals that the caller has
--- seen at last
+-- a session of one caller among many, from its end: each of its requests was answered over the journals that the caller
+-- has seen at last
 abbrev pub ServesAmong : SettingOf Views → Outside → Outside → Account → Views → End → Type 0
 ServesAmong set before after account last end =
     ServesBy (IsServedAmong (journals_of last)) set before after account last end

@@ -79,8 +79,8 @@ abbrev pub fresh_session : List SiteId → Option ℕ → Setting
 fresh_session sites fixed =
     record { realm = record { served = sites; limits = standard }; first = fresh; fixed = fixed }
 
--- a command that serves a session reads, answers and writes as this session does, and ends so; the cuts are those of its
--- account
+-- a command that serves a session reads, answers and writes as this session does, and ends so; the cuts are those of
+-- its account
 pub record RunsSession (sites : List SiteId) (fixed : Option ℕ) (before after : Outside) (cuts : List Cut)
     (end : End) : Type 0 where
   pub moments : List ℕ
@@ -95,7 +95,8 @@ pub record RunsSession (sites : List SiteId) (fixed : Option ℕ) (before after 
 unfoldable pub ready_line : List ℕ
 ready_line = codes "ready" ++ 10 ∷ []
 
--- the outside of a server: whether its address is open, whether its acceptor closed, how often that failed, and its sink
+-- the outside of a server: whether its address is open, whether its acceptor closed, how often that failed, and its
+-- sink
 pub record Front : Type 0 where
   pub is_open : Bool
   pub is_closed : Bool

@@ -45,16 +45,16 @@ left_by realm world moment cut request = if cut.failed
     then run_to cut.entries realm world (script_of realm moment request)
     else (outcome_of realm world moment request).world
 
--- a cut has the number of its request's entries, and the digest with which an upload was completed; one that failed has no
--- more entries than the request would have added, and that digest or none
+-- a cut has the number of its request's entries, and the digest with which an upload was completed; one that failed has
+-- no more entries than the request would have added, and that digest or none
 pub record Counts (realm : Realm) (world : World) (moment : ℕ) (request : Request) (cut : Cut) : Type 0 where
   pub at_most : cut.entries ≤ (outcome_of realm world moment request).entries
   pub all : cut.failed ≡ false → cut.entries ≡ (outcome_of realm world moment request).entries
   pub sealed : cut.failed ≡ false → cut.sealed ≡ (outcome_of realm world moment request).answer.sealed
   pub no_other : (cut.sealed ≡ None) ⊎ (cut.sealed ≡ (outcome_of realm world moment request).answer.sealed)
 
--- the places of a request are those of its turns in order; of one that failed, the first of them, and no more of these say
--- that an entry was added than were
+-- the places of a request are those of its turns in order; of one that failed, the first of them, and no more of these
+-- say that an entry was added than were
 pub record IsPlaced (realm : Realm) (world : World) (moment : ℕ) (cut : Cut) (request : Request)
     (places : List Place) : Type 0 where
   pub all : cut.failed ≡ false → places ≡ (outcome_of realm world moment request).places
@@ -78,8 +78,8 @@ module _ {S : Type 0} (serves : S → Exchange → S → Type 0) where
   Chain first [] last = last ≡ first
   Chain first (e ∷ es) last = (next : S) × serves first e next × Chain next es last
 
--- the standing of a session between two requests: the sites and limits, the journals as they are seen, the moment of each
--- request where it is fixed, and the moments that the clock has given, where it tells them
+-- the standing of a session between two requests: the sites and limits, the journals as they are seen, the moment of
+-- each request where it is fixed, and the moments that the clock has given, where it tells them
 pub record StandingOf (W : Type 0) : Type 0 where
   pub realm : Realm
   pub world : W
@@ -166,8 +166,8 @@ IsUnspent _ ending size = Unit {0}
 
 -- ---- a whole session
 
--- the source, the sink and the clock of a session: the bytes that the first has left, those that the second holds and the
--- moments that the third has given, where they tell them, and how often the first two have failed
+-- the source, the sink and the clock of a session: the bytes that the first has left, those that the second holds and
+-- the moments that the third has given, where they tell them, and how often the first two have failed
 pub record Outside : Type 0 where
   pub left : Option (List ℕ)
   pub held : Option (List ℕ)
@@ -189,7 +189,8 @@ account_of exchanges = record {
   cuts = map (λ e. e.cut) exchanges;
 }
 
--- the beginning of a session: the sites and limits, the journals as they are seen, and the moment in seconds where it is fixed
+-- the beginning of a session: the sites and limits, the journals as they are seen, and the moment in seconds where it
+-- is fixed
 pub record SettingOf (W : Type 0) : Type 0 where
   pub realm : Realm
   pub first : W
@@ -203,8 +204,8 @@ Setting = SettingOf World
 abbrev pub stands : {W : Type 0} → SettingOf W → W → Option (List ℕ) → StandingOf W
 stands set world told = record { realm = set.realm; world = world; fixed = set.fixed; told = told }
 
--- the piece that was being written, and all that was written before it: the reply to the last of the requests, the 100 to
--- the one that comes next, or the reply to bytes that are no request
+-- the piece that was being written, and all that was written before it: the reply to the last of the requests, the 100
+-- to the one that comes next, or the reply to bytes that are no request
 abbrev pub IsLast : List ℕ → List Exchange → Point → List ℕ → List ℕ → Type 0
 IsLast read exchanges point done piece =
     ((earlier : List Exchange) × (last : Exchange) × (exchanges ≡ earlier ++ last ∷ [])
@@ -221,8 +222,8 @@ module _ {W : Type 0} (serves : StandingOf W → Exchange → StandingOf W → T
     pub says : account ≡ account_of exchanges
     pub served : Chain serves (stands set set.first before.told) exchanges (stands set last after.told)
 
-  -- the bytes that were read begin with these requests, each of which was answered, and no other; the 100 to the request that
-  -- comes next may have been written
+  -- the bytes that were read begin with these requests, each of which was answered, and no other; the 100 to the
+  -- request that comes next may have been written
   pub record AnsweredBy (set : SettingOf W) (before after : Outside) (account : Account) (last : W) : Type 0 where
     pub read : List ℕ
     pub exchanges : List Exchange
@@ -252,7 +253,8 @@ module _ {W : Type 0} (serves : StandingOf W → Exchange → StandingOf W → T
     pub ends : Ends end tail.ending (length read)
     pub unspent : IsUnspent end tail.ending (length read)
 
-  -- a write failed: the sink got all that was written before, and a part of the piece that was being written, but not all
+  -- a write failed: the sink got all that was written before, and a part of the piece that was being written, but not
+  -- all
   pub record CutOffBy (set : SettingOf W) (before after : Outside) (account : Account) (last : W) : Type 0 where
     pub read : List ℕ
     pub exchanges : List Exchange

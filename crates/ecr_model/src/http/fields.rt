@@ -8,11 +8,11 @@ ghost use Rattle.ecr_model.specs.http.Fields.{first_value, has_name};
 use httparse::spans::{HeaderSpan, Span};
 use std::marker::Model;
 
-/// The field lines of a head, in their order. Contracts see the list of the fields, each with its name as it came and its
-/// value without the spaces and tabs around it.
+/// The field lines of a head, in their order. Contracts see the list of the fields, each with its name as it came and
+/// its value without the spaces and tabs around it.
 ///
-/// Kept are the head's bytes, and where in them each name and each value stands: two pieces of memory, however many fields
-/// there are.
+/// Kept are the head's bytes, and where in them each name and each value stands: two pieces of memory, however many
+/// fields there are.
 #[derive(Drop)]
 pub struct Fields {
     head: Vec<u8>,

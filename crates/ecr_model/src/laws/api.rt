@@ -1,4 +1,5 @@
-// What the definitions of bodies and replies come to, at examples. The functions do nothing: their contracts are the laws.
+// What the definitions of bodies and replies come to, at examples. The functions do nothing: their contracts are the
+// laws.
 ghost use Rattle.ecr_model.specs.examples.ApiExample.{BodiesAreRead, RepliesAreWritten};
 
 /// The bodies that are written out in `specs/examples/ApiExample.antt` are read as it says there.

@@ -37,8 +37,8 @@ pub fn the_last_is_now()
     ensures directories { NowOfDirectories }
 {}
 
-/// The lines of a sound journal from an earlier ticket on and below a later one lead from the state as at the earlier one
-/// to the state as at the later one.
+/// The lines of a sound journal from an earlier ticket on and below a later one lead from the state as at the earlier
+/// one to the state as at the later one.
 pub fn the_lines_between_lead_on()
     ensures repositories { BetweenOfRepositories }
     ensures directories { BetweenOfDirectories }

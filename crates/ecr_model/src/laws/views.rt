@@ -34,7 +34,8 @@ pub fn turns_compose()
     ensures at_the_end { VisitsHalt Decided }
 {}
 
-/// A caller that is alone, and sees whole journals, makes the turns of the run, whole or up to some entry, and no others.
+/// A caller that is alone, and sees whole journals, makes the turns of the run, whole or up to some entry, and no
+/// others.
 pub fn alone_turns_are_runs()
     ensures visits { RunsVisit Decided }
     ensures runs { VisitsRun Decided }

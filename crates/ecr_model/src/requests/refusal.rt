@@ -1,8 +1,8 @@
 // Why a call is refused.
 use crate::{Digest, Listed, ManifestFault, PolicyFault};
 
-/// What of a request isn't allowed: a member of its body (Amazon ECR API Reference, the actions' request parameters), or a
-/// text in one.
+/// What of a request isn't allowed: a member of its body (Amazon ECR API Reference, the actions' request parameters),
+/// or a text in one.
 #[derive(Clone, Copy)]
 pub enum Parameter {
     /// `registryId`
@@ -79,7 +79,8 @@ pub enum Refusal {
     RepositoryNotEmpty,
     /// There is no upload of this number.
     UploadNotFound,
-    /// The part doesn't follow the bytes that were received, of which there are so many, or has another size than stated.
+    /// The part doesn't follow the bytes that were received, of which there are so many, or has another size than
+    /// stated.
     InvalidLayerPart { received: u64 },
     /// The upload has no part.
     EmptyUpload,

@@ -5,7 +5,8 @@ use crate::Mem;
 use std::alloc::Global;
 use std::marker::Model;
 
-/// A value that is seldom there, and stands elsewhere: here it takes 16 bytes, whatever its size. Contracts see the option.
+/// A value that is seldom there, and stands elsewhere: here it takes 16 bytes, whatever its size. Contracts see the
+/// option.
 #[derive(Drop)]
 pub struct Rare<T> {
     value: Option<Box<T>>,

@@ -17,8 +17,8 @@ use std::marker::Model;
 use std::sync::Arc;
 
 /// Bytes that many values have and that never change, such as a repository's name, which its key, its journal and its
-/// places have. A copy shares them: an `Arc` counts their owners. Contracts see the list of the bytes. Their order is that
-/// of their bytes.
+/// places have. A copy shares them: an `Arc` counts their owners. Contracts see the list of the bytes. Their order is
+/// that of their bytes.
 #[derive(Drop)]
 pub struct SharedText {
     bytes: Arc<Vec<u8>>,

@@ -1,4 +1,5 @@
-// Inputs that don't read as text: blank bytes, chunks, and input that ends or goes on too long (RFC 9112, sections 2.2 and
+// Inputs that don't read as text: blank bytes, chunks, and input that ends or goes on too long (RFC 9112, sections 2.2
+// and
 // 7.1), in pieces of several sizes.
 use crate::tests::harness::{
     BAD, BAD_NAME, BODY, CHUNKED, CONTINUE, CREATE, FIELDS, LENGTH, LONG_BODY, LONG_HEAD,
@@ -145,8 +146,8 @@ fn other_inputs_end_as_they_must(rt: HostRuntime) -> Result<(), Fail> {
     Ok(())
 }
 
-// The input, cut in two, gives that output; its first `cut` bytes alone give `interim` where a head of `head` bytes is among
-// them, and end inside the request.
+// The input, cut in two, gives that output; its first `cut` bytes alone give `interim` where a head of `head` bytes is
+// among them, and end inside the request.
 fn check_cut(
     rt: &impl Abort,
     alloc: Global,

@@ -12,8 +12,8 @@ use std::io::{ErrorKind, Read, Write};
 use std::process::Abort;
 use std::test::Fail;
 
-// An input; the sizes of the reads and the writes, and the numbers of those that fail; the bytes that are written, and the
-// end with its status.
+// An input; the sizes of the reads and the writes, and the numbers of those that fail; the bytes that are written, and
+// the end with its status.
 struct Case {
     input: Parts,
     reads: (&'static [usize], &'static [u64]),
@@ -134,7 +134,8 @@ fn a_fault_ends_a_session(rt: HostRuntime) -> Result<(), Fail> {
     Ok(())
 }
 
-// A reader of bytes one by one, of which each call but the second of two is interrupted; at the end it fails or has ended.
+// A reader of bytes one by one, of which each call but the second of two is interrupted; at the end it fails or has
+// ended.
 #[derive(Drop)]
 struct Slow<'a> {
     bytes: &'a [u8],

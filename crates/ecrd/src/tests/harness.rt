@@ -1,4 +1,5 @@
-// Whole sessions over a source and a sink in memory, cut into pieces: how they are run, and the texts of which they are made.
+// Whole sessions over a source and a sink in memory, cut into pieces: how they are run, and the texts of which they are
+// made.
 use ecr_model::End;
 use ecr_outside::{MemClock, MemSink, MemSource};
 use ecr_serve::{Ended, solo};
@@ -76,8 +77,8 @@ pub(crate) fn check_in(
     Ok(())
 }
 
-// The parts of that case as an input, behind those parts, give those of its output, in large pieces, and in pieces of 1, 2
-// and 7 bytes.
+// The parts of that case as an input, behind those parts, give those of its output, in large pieces, and in pieces of
+// 1, 2 and 7 bytes.
 pub(crate) fn check(
     rt: &impl Abort,
     alloc: Global,
@@ -149,8 +150,8 @@ fn check_text_in(
     Ok(())
 }
 
-// The requests before `====` are answered by the replies behind it, and the session ends like that, in large pieces, and
-// in pieces of 1, 2 and 7 bytes.
+// The requests before `====` are answered by the replies behind it, and the session ends like that, in large pieces,
+// and in pieces of 1, 2 and 7 bytes.
 pub(crate) fn check_text(
     rt: &impl Abort,
     alloc: Global,

@@ -5,4 +5,22 @@ use Rattle.ecr_examples.proofs.heads.sessions_close.Goals as goal
 
 pub returns : goal.returns
 unfolding says_close begins_close has_close
-returns c = record { close = record { comma = refl; word = refl; spaced = refl; front = refl; longer = refl; shorter = refl; two_words = refl; later = refl; not_later = refl; some = refl; none = refl; old = refl; open_ = refl; says = refl; second = refl } }
+returns c = record {
+  close = record {
+    comma = refl;
+    word = refl;
+    spaced = refl;
+    front = refl;
+    longer = refl;
+    shorter = refl;
+    two_words = refl;
+    later = refl;
+    not_later = refl;
+    some = refl;
+    none = refl;
+    old = refl;
+    open_ = refl;
+    says = refl;
+    second = refl;
+  };
+}

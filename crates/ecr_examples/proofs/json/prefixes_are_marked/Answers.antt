@@ -4,4 +4,16 @@ use Rattle.ecr_examples.proofs.json.prefixes_are_marked.Goals as goal
 
 pub returns : goal.returns
 unfolding byte_mark text_mark mark_of
-returns c = record { marked = record { none = refl; letter = refl; text = refl; texts = refl; listed = refl; untagged = refl; any = refl; among = refl; not_among = refl } }
+returns c = record {
+  marked = record {
+    none = refl;
+    letter = refl;
+    text = refl;
+    texts = refl;
+    listed = refl;
+    untagged = refl;
+    any = refl;
+    among = refl;
+    not_among = refl;
+  };
+}

@@ -7,4 +7,21 @@ use Rattle.ecr_examples.proofs.names.digests_are_read.Goals as goal
 
 pub returns : goal.returns
 unfolding digest_text digest_of upload_id hex_on_literals encode_with decode_pairs
-returns c = record { read = record { digits = refl; written = refl; read = refl; bare = refl; taken = refl; other = refl; long = refl; short = refl; capital = refl; no_digit = refl; number = refl; upload = refl; first_upload = refl; last_upload = refl } }
+returns c = record {
+  read = record {
+    digits = refl;
+    written = refl;
+    read = refl;
+    bare = refl;
+    taken = refl;
+    other = refl;
+    long = refl;
+    short = refl;
+    capital = refl;
+    no_digit = refl;
+    number = refl;
+    upload = refl;
+    first_upload = refl;
+    last_upload = refl;
+  };
+}

@@ -7,4 +7,13 @@ use Rattle.ecr_examples.proofs.sessions.commands_end.Goals as goal
 
 pub returns : goal.returns
 unfolding fresh standard usage_lines ready_line digits
-returns c = record { end = record { clock = refl; no_clock = refl; usage = refl; fresh_is = refl; statuses = refl; ready = refl } }
+returns c = record {
+  end = record {
+    clock = refl;
+    no_clock = refl;
+    usage = refl;
+    fresh_is = refl;
+    statuses = refl;
+    ready = refl;
+  };
+}

@@ -19,5 +19,27 @@ use Rattle.serde_json.proofs.OnLiterals.{serde_json_on_literals}
 use Rattle.ecr_examples.proofs.sessions.requests_are_posed.Goals as goal
 
 pub returns : goal.returns
-unfolding posed_of posed_script posed_bytes is_json_call site_for named_site without_port reading action_of asked_script call_script first_turn then_cell then_do run entered turn_at fresh standard replay first_directory first_state registration directory_after_line step after_line reply_data repository_data json refused refusal_data type_text message_text json_head connection_line empty_reply utf8_or_empty arn_of uri_of utf8_valid_len is_utf8 chars lib.Utf8.encode digits serde_json_on_literals
-returns c = record { posed = record { call = refl; asked_too = refl; get = refl; below = refl; target = refl; no_target = refl; base = refl; unknown = refl; elsewhere = refl; of_refusal = refl; of_none = refl; of_call = refl; bytes = refl; bytes_asked = refl; bytes_none = refl } }
+unfolding posed_of posed_script posed_bytes is_json_call site_for named_site without_port reading action_of asked_script
+    call_script first_turn then_cell then_do run entered turn_at fresh standard replay first_directory first_state
+    registration directory_after_line step after_line reply_data repository_data json refused refusal_data type_text
+    message_text json_head connection_line empty_reply utf8_or_empty arn_of uri_of utf8_valid_len is_utf8 chars
+    lib.Utf8.encode digits serde_json_on_literals
+returns c = record {
+  posed = record {
+    call = refl;
+    asked_too = refl;
+    get = refl;
+    below = refl;
+    target = refl;
+    no_target = refl;
+    base = refl;
+    unknown = refl;
+    elsewhere = refl;
+    of_refusal = refl;
+    of_none = refl;
+    of_call = refl;
+    bytes = refl;
+    bytes_asked = refl;
+    bytes_none = refl;
+  };
+}

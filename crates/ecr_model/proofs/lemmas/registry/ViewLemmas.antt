@@ -220,7 +220,8 @@ by-was : (was : Option View) (caller : ℕ) → KeepsCaller was (Some (record { 
 by-was None caller same = refl
 by-was (Some view) caller same = ap (λ n. by n view.seen) same
 
-pub own_of-comes : (was : Option View) (now : View) (own : List Line) → ExtendsView was now own → by now.caller own ≡ own
+pub own_of-comes : (was : Option View) (now : View) (own : List Line) → ExtendsView was now own
+    → by now.caller own ≡ own
     → own_of (Some now) ≡ own_of was ++ own
 own_of-comes was now own comes is =
     let none : by now.caller comes.others ≡ [] = by-foreign now.caller comes.others comes.foreign in
@@ -239,7 +240,8 @@ own_of-comes was now own comes is =
     same_caller (Some view) now same = same
 
 -- the later number is the one of the turn
-pub caller_of-later : (view : View) (later : Option View) → KeepsCaller (Some view) later → caller_of later ≡ view.caller
+pub caller_of-later : (view : View) (later : Option View) → KeepsCaller (Some view) later
+    → caller_of later ≡ view.caller
 caller_of-later view None same = absurd same
 caller_of-later view (Some now) same = same
 

@@ -244,7 +244,8 @@ unfolding with_view with_lines entered
 alike-entered realm world was cell view None alike same k =
     cond_both (same_cell cell k) (Some view) (was k)
     (λ (o : Option View). entries_of (seen_of o) ≡ entries_of (world.journals k))
-    (λ is. subst (λ (c : CellKey). entries_of view.seen ≡ entries_of (world.journals c)) (same_cell-same cell k is) same)
+    (λ is. subst (λ (c : CellKey). entries_of view.seen ≡ entries_of (world.journals c))
+    (same_cell-same cell k is) same)
     (λ apart. alike k)
 alike-entered realm world was cell view (Some entry) alike same k =
     chosen-alike (same_cell cell k) (Some view) (was k)
@@ -286,7 +287,8 @@ taken : (realm : Realm) (world : World) (was : Views) (cell : CellKey) (ask : As
 taken realm world was cell ask view made is visit since =
     let turned : Turned = next_turn realm world cell ask in
     let one : IsTurnAlike realm world cell ask view made =
-    visit-alike realm world (was cell) cell ask view made visit since (is.passed cell) (is.sound cell) (is.alike cell) in
+    visit-alike realm world (was cell) cell ask view made visit since (is.passed cell) (is.sound cell)
+    (is.alike cell) in
     record {
       turn = one;
       after = record {
@@ -372,7 +374,8 @@ module _ {A : Type 0} where
       let there : answer_at realm (journals_of later) (next turned.told) ms ≡ Some answer =
       ap (λ (x : Turned). answer_at realm (journals_of later) (next x.told) ms)
       (sym (result_of-later (among realm) was later cell view ask m h.1 on ∙ one.turn.result)) ∙ at in
-      let more = answer_alike realm mid now later after (next turned.told) ms answer one.after since.1 rest ahead there in
+      let more = answer_alike realm mid now later after
+      (next turned.told) ms answer one.after since.1 rest ahead there in
       let counted = one.counted in
       (more.0, omega (arith, counted, more.1))
 
@@ -409,8 +412,7 @@ exchange-alike first next later begin mid e f realm is nobody ahead one other q 
         ∙ ap (λ x. script_of r f.moment x) q
 
     halts : Halts (among r) first.world next.world script made
-    halts =
-        subst (λ (s : Script Decided). Halts (among r) first.world next.world s made) script-same
+    halts = subst (λ (s : Script Decided). Halts (among r) first.world next.world s made) script-same
         (subst (λ (x : Realm). Halts (among x) first.world next.world
         (script_of first.realm e.moment e.request) made) realm one.visited)
 
@@ -434,7 +436,8 @@ exchange-alike first next later begin mid e f realm is nobody ahead one other q 
         map-none content_digest e.contents a.carries ∙ sym (carries_none f.cut.failed f.contents other.carries) in
         record {
           bytes = a.bytes
-              ∙ ap (λ (x : Realm). posed_bytes (posed_of x.served e.request) (closes e.request) a.answer.reply e.contents)
+              ∙ ap (λ (x : Realm).
+              posed_bytes (posed_of x.served e.request) (closes e.request) a.answer.reply e.contents)
               realm
               ∙ ap (λ x. posed_bytes (posed_of r.served x) (closes x) a.answer.reply e.contents) q
               ∙ ap (λ (x : Decided). posed_bytes (posed_of r.served f.request) (closes f.request) x.reply e.contents)
@@ -494,7 +497,7 @@ chain-alike first last later begin finish (e ∷ es) (f ∷ fs) realm is nobody 
 
 -- over journals that nobody else changes, a session among others writes what one of a caller that is alone does
 pub output_is_still : OutputIsStill
-output_is_still first last begin finish exchanges others among_others passed nobody alone sound realm alike requests same =
-    chain-alike first last last.world begin finish exchanges others realm
+output_is_still first last begin finish exchanges others among_others passed nobody alone sound realm alike requests
+    same = chain-alike first last last.world begin finish exchanges others realm
     (record { alike = alike; passed = passed; sound = sound }) nobody (λ k. IsAhead-refl (last.world k)) among_others
     alone requests same.moments same.cuts

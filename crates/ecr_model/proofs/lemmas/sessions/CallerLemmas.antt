@@ -90,7 +90,8 @@ module _ {A : Type 0} where
       (own_of-visit terms was now at cell h.0 ask m h.1 go)
       ∙ append_assoc (own_of (was cell)) (own (result_of terms.realm at h.0.seen ask m))
       (others (result_of terms.realm at h.0.seen ask m))
-      ∙ ap (λ t. own_of (was cell) ++ (own t ++ others t)) (sym (result_of-later terms was later at h.0 ask m h.1 after))
+      ∙ ap (λ t. own_of (was cell) ++ (own t ++ others t))
+      (sym (result_of-later terms was later at h.0 ask m h.1 after))
 
 -- ---- places
 
@@ -287,7 +288,8 @@ sent-same journals s t last other (e ∷ es) (f ∷ fs) realm one two q m p c =
 
 -- the bytes read, the account and the journals decide what a session writes
 pub output_is_decided : OutputIsDecided
-output_is_decided journals first last another other exchanges others read over tail ending realm served again account reads too =
+output_is_decided journals first last another other exchanges others read over tail ending realm served again account
+    reads too =
     let same : (requests_of exchanges ≡ requests_of others) × (tail ≡ ending) =
     Reads-unique read over (requests_of exchanges) (requests_of others) tail ending reads too in
     let bytes : sent_to exchanges ≡ sent_to others =

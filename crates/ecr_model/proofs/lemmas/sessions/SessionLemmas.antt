@@ -99,7 +99,8 @@ map-none f [] none = refl
 map-none f (x ∷ xs) none = absurd (cc)
 
 -- no reply carries content yet
-pub carries_none : (failed : Bool) (contents : List (List ℕ)) → map content_digest contents ≡ (if failed then [] else [])
+pub carries_none : (failed : Bool) (contents : List (List ℕ))
+    → map content_digest contents ≡ (if failed then [] else [])
     → contents ≡ []
 carries_none true contents is = map-none content_digest contents is
 carries_none false contents is = map-none content_digest contents is

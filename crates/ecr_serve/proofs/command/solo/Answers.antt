@@ -11,7 +11,10 @@ returns-in-Ok-None-clause-usage g c = λ other. record {
   idle = record { left = refl; told = refl; read_faults = refl };
   said = SaysUsage-same_end
       (record { held = g.K.Sink.held c.args.sink.now; faults = g.K.Sink.faults c.args.sink.now })
-      (record { held = g.K.Sink.held c.say_usage.new.sink; faults = g.K.Sink.faults c.say_usage.new.sink }) c.with_status-in-Ok-None.result.end c.say_usage.result
+      (record {
+        held = g.K.Sink.held c.say_usage.new.sink;
+        faults = g.K.Sink.faults c.say_usage.new.sink;
+      }) c.with_status-in-Ok-None.result.end c.say_usage.result
       c.with_status-in-Ok-None.ensures.end c.say_usage.ensures;
 }
 

@@ -11,5 +11,6 @@ returns c =
     let most = c.args.most in
     let same : text_of c.get_str.result ≡ first_of c.args.name.now (rows_of (found_of c.args.matches.now)) =
     c.get_str.ensures ∙ first_value-rows (found_of c.args.matches.now) c.args.name.now in
-    subst (λ (t : Option Text). IfOk c.read_count.result (λ o. MatchOption o (IsNoCount usual most t) (IsCount usual most t)))
+    subst (λ (t : Option Text).
+    IfOk c.read_count.result (λ o. MatchOption o (IsNoCount usual most t) (IsCount usual most t)))
     same c.read_count.ensures

@@ -18,7 +18,8 @@ returns-clause-ok c =
     let app_is : app_of c.in_ok-command.command ≡ serve_app = c.in_ok-command.ensures.shape (search rules)
     ∙ ap₂ with_rule (c.in_ok-arg-3.ensures.shape (search rules)
     ∙ ap₂ with_rule (c.in_ok-arg-2.ensures.shape (search rules)
-    ∙ ap₂ with_rule (c.in_ok-arg.ensures.shape (search rules) ∙ ap₂ with_rule c.new-5.ensures.app workers_is) copiers_is)
+    ∙ ap₂ with_rule (c.in_ok-arg.ensures.shape (search rules)
+    ∙ ap₂ with_rule c.new-5.ensures.app workers_is) copiers_is)
     address_is) sites_is in
     let parse = c.try_get_matches_from in
     parsed (fault_of serve_app words) (matches_of serve_app words) parse.result
@@ -40,7 +41,8 @@ returns-clause-err c =
     let app_is : app_of c.in_ok-command.command ≡ serve_app = c.in_ok-command.ensures.shape (search rules)
     ∙ ap₂ with_rule (c.in_ok-arg-3.ensures.shape (search rules)
     ∙ ap₂ with_rule (c.in_ok-arg-2.ensures.shape (search rules)
-    ∙ ap₂ with_rule (c.in_ok-arg.ensures.shape (search rules) ∙ ap₂ with_rule c.new-5.ensures.app workers_is) copiers_is)
+    ∙ ap₂ with_rule (c.in_ok-arg.ensures.shape (search rules)
+    ∙ ap₂ with_rule c.new-5.ensures.app workers_is) copiers_is)
     address_is) sites_is in
     let parse = c.try_get_matches_from in
     failed (fault_of serve_app words) parse.result

@@ -4,7 +4,8 @@ use Rattle.ecr_serve.proofs.WordsLemmas.{no_number-Err, no_number-above, no_numb
 use Rattle.ecr_serve.proofs.words.read_number.Goals as goal
 
 pub returns-in_default : goal.returns-in_default
-returns-in_default c = no_number-Err c.args.most c.args.word.now c.parse.result c.in_default.field-0 (search rules) c.parse.ensures.value.0
+returns-in_default c =
+    no_number-Err c.args.most c.args.word.now c.parse.result c.in_default.field-0 (search rules) c.parse.ensures.value.0
     c.in_default.is
 
 pub returns : goal.returns
@@ -13,7 +14,8 @@ returns c =
     cc (c.in_ok-written.ensures.ok, c.as_str.ensures.value) in
     let other : c.args.word.now ≢ decimal c.in-Ok.number =
     λ e. let same : false ≡ true = c.if-is_same.ensures.1 (written ∙ sym e) in cc in
-    no_number-other c.args.most c.args.word.now c.parse.result c.in-Ok.number (search rules) c.parse.ensures.value.0 c.in-Ok.is other
+    no_number-other c.args.most c.args.word.now c.parse.result c.in-Ok.number
+    (search rules) c.parse.ensures.value.0 c.in-Ok.is other
 
 pub returns-then-number-most : goal.returns-then-number-most
 returns-then-number-most c = no_number-above c.args.most c.args.word.now c.parse.result c.in-Ok.number (search rules)

@@ -83,7 +83,11 @@ returns-in-Ok-clause-fresh g c =
       places = map (λ v. v.items) c.ended.result.places.items;
       cuts = c.ended.result.cuts.items;
     } in
-    ServesAmong-between (record { realm = desk.realm; first = pass.views; fixed = c.args.mode.fixed }) _ _ told now.views
+    ServesAmong-between (record {
+      realm = desk.realm;
+      first = pass.views;
+      fixed = c.args.mode.fixed;
+    }) _ _ told now.views
     c.ended.result.end
     (Serves-with desk pass now first last c.args.mode.fixed _ _ told (account_in c.run-end.new.self) c.ended.result.end
     c.run-end.result same
