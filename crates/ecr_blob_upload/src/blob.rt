@@ -79,6 +79,7 @@ mod tests {
     use crate::Blob;
     use std::test::Fail;
 
+    // pins: content_digest
     #[test]
     fn known_contents_have_their_digests(rt: HostRuntime) -> Result<(), Fail> {
         for (content, digits) in [

@@ -206,6 +206,8 @@ fn system_moment<C: time::Clock>(clock: &C) -> Option<Moment> {
 #[cfg(test)]
 mod tests {
     use super::*;
+    use std::sync::atomic::{AtomicU64, Ordering};
+    use std::time::Duration;
 
     // Is interrupted, gives a byte, fails, and is at its end.
     #[derive(Drop)]
@@ -252,8 +254,53 @@ mod tests {
 
     #[test]
     fn the_systems_clock_is_a_clock(rt: HostRuntime) {
-        let mut clock = RealClock::new(&rt);
-        let moment = clock.now();
-        assert!(rt; moment > 1_600_000_000);
+        let before = system_moment(&rt);
+        let moment = RealClock::new(&rt).now();
+        let after = system_moment(&rt);
+        assert!(rt; before <= Some(moment) && Some(moment) <= after);
+    }
+
+    // Fails at every second call, and tells the moments of its plan at the others.
+    #[derive(Drop)]
+    struct Planned {
+        calls: AtomicU64,
+    }
+
+    impl time::Clock for Planned {
+        fn monotonic(&self) -> io::Result<Duration> {
+            self.since_1970()
+        }
+
+        fn since_1970(&self) -> io::Result<Duration> {
+            match self.calls.fetch_add(1, Ordering::Relaxed) {
+                1 => Ok(Duration::new(1_700_000_000, 999_999_999)),
+                3 => Ok(Duration::new(1_600_000_000, 0)),
+                5 => Ok(Duration::new(253_402_300_799, 1)),
+                7 => Ok(Duration::new(253_402_300_800, 0)),
+                9 => Ok(Duration::new(0, 1)),
+                _ => Err(ErrorKind::Other.into()),
+            }
+        }
+    }
+
+    #[test]
+    fn a_clock_is_followed_in_whole_seconds(rt: HostRuntime) {
+        let calls = AtomicU64::new(0);
+        let mut clock = RealClock::new(Planned { calls });
+        for want in [
+            0,
+            1_700_000_000,
+            1_700_000_000,
+            1_600_000_000,
+            1_600_000_000,
+            MAX_MOMENT,
+            MAX_MOMENT,
+            MAX_MOMENT,
+            MAX_MOMENT,
+            0,
+            0,
+        ] {
+            assert_eq!(rt; clock.now(), want);
+        }
     }
 }

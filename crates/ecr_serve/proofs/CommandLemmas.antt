@@ -1,5 +1,6 @@
 -- What a command says of its words' readings and of its end.
-use Rattle.std.proofs.Common.{◌≡◌, ℕ, List, [], Option, sym, ap, ◌∙◌, subst}
+use Rattle.std.proofs.Common.{◌≡◌, ◌≤◌, ℕ, inl, List, [], Option, length, refl, sym, ap, ◌∙◌, subst, arith}
+use Rattle.std.proofs.KnownBytes.{Appends-nil, Consumes-nil}
 use Rattle.ecr_model.specs.declared.registry.journal.Place.{Place}
 use Rattle.ecr_model.specs.declared.registry.journal.Limits.{Limits}
 use Rattle.ecr_model.specs.declared.names.SiteId.{SiteId}
@@ -9,10 +10,10 @@ use Rattle.ecr_model.specs.declared.outcome.End.TheVariants as ends
 use Rattle.ecr_model.specs.sessions.Commands.{IsSession, RunsSession, SaysUsage, Written, fresh_session}
 use Rattle.ecr_model.specs.registry.Limits.{standard}
 use Rattle.ecr_model.specs.registry.Scripts.{World, fresh}
-use Rattle.ecr_model.specs.sessions.Sessions.{IsServed, Outside, Serves}
+use Rattle.ecr_model.specs.http.Stream.{start}
+use Rattle.ecr_model.specs.sessions.Sessions.{Account, AnsweredBy, IsServed, Outside, Serves, ServesBy, Setting, max_read}
 use Rattle.ecr_model.proofs.lemmas.sessions.CommandLemmas.{IsSession-unique}
 use Rattle.ecr_desk.specs.Desks.{StillState}
-use Rattle.ecr_session.proofs.StartLemmas.{Serves-nothing}
 
 -- what is said of other words holds of an end that is the same
 pub SaysUsage-same_end : (before after : Written) (end other : End) → end ≡ other → SaysUsage before after other
@@ -29,6 +30,31 @@ RunsSession-same_words words m n xs ys before after cuts end read other runs =
     subst (λ fixed. RunsSession ys fixed before after cuts end) same.0
     (subst (λ sites. RunsSession sites m before after cuts end) same.1 runs)
 
+-- no byte is within the number that may be read
+nothing_read : length (let none : List ℕ = [] in none) ≤ max_read
+unfolding max_read
+nothing_read = omega arith
+
+-- a session that isn't begun has told nothing
+Serves-nothing : (set : Setting) (before : Outside) (account : Account) (end : End)
+    → account ≡ record { moments = []; places = []; cuts = [] } → end ≡ ends.Mem
+    → Serves set before before account set.first end
+Serves-nothing set before account end none mem =
+    subst (λ e. Serves set before before account set.first e) (sym mem)
+    (subst (λ a. AnsweredBy IsServed set before before a set.first) (sym none) (record {
+      read = [];
+      exchanges = [];
+      within = nothing_read;
+      point = start [];
+      further = [];
+      consumed = Consumes-nil before.left;
+      begins = refl;
+      goes_on = refl;
+      serviced = record { says = refl; served = refl };
+      told_to = inl refl;
+      sent = Appends-nil before.held;
+    }))
+
 -- a command that isn't begun
 pub RunsSession-nothing : (sites : List SiteId) (fixed : Option ℕ) (before : Outside) (cuts : List Cut) (end : End)
     → cuts ≡ [] → end ≡ ends.Mem
@@ -37,7 +63,7 @@ RunsSession-nothing sites fixed before cuts end none mem = record {
   moments = [];
   places = [];
   last = fresh;
-  serves = Serves-nothing IsServed (fresh_session sites fixed) before
+  serves = Serves-nothing (fresh_session sites fixed) before
       (record { moments = []; places = []; cuts = cuts }) end
       (ap (λ cs. record { moments = []; places = []; cuts = cs }) none) mem;
 }

@@ -9,7 +9,7 @@ use ecr_cells::{DeskPass, SharedDesk};
 use ecr_desk::{Desk, Seen};
 use ecr_model::{End, Mem};
 use ecr_outside::{Accept, Clocks, Gate, Next, Sink, Source};
-use ecr_session::{Mode, SessionEnd, serve_session};
+use ecr_session::{LinkEnd, Mode, serve_link};
 use std::alloc::Global;
 use std::sync::Wait;
 use std::thread;
@@ -52,7 +52,7 @@ impl<'a, D: Desk> Worker<'a, D> {
             fixed: None,
         };
         let mut clock = clocks.one(number);
-        let ended = serve_session(
+        let LinkEnd { pass, end: _end } = serve_link(
             rt,
             alloc,
             desk,
@@ -64,13 +64,6 @@ impl<'a, D: Desk> Worker<'a, D> {
             &mut clock,
             gate,
         );
-        let SessionEnd {
-            pass,
-            moments: _moments,
-            places: _places,
-            cuts: _cuts,
-            end: _end,
-        } = ended;
         Worker { number, desk, pass }
     }
 }

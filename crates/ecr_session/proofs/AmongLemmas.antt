@@ -1,7 +1,8 @@
 -- A session over a desk of many callers is one of one caller among them, over the journals that it has seen at last.
-use Rattle.std.proofs.Common.{◌≡◌, inl, inr, ℕ, Bool, false, List, [], ◌∷◌, Option, None, Some, is_none, refl, sym, ap, ◌∙◌, subst}
+use Rattle.std.proofs.Common.{◌≡◌, ◌+◌, inl, inr, ℕ, Bool, false, List, [], ◌∷◌, Option, None, Some, is_none, refl, sym, ap, ◌∙◌, subst, arith}
 use Rattle.ecr_model.specs.declared.registry.journal.CellKey.{CellKey}
 use Rattle.ecr_model.specs.declared.registry.journal.Place.{Place}
+use Rattle.ecr_model.specs.declared.outcome.Cut.{Cut}
 use Rattle.ecr_model.specs.declared.outcome.End.{End}
 use Rattle.ecr_model.specs.requests.Requests.{Decided}
 use Rattle.ecr_model.specs.registry.Scripts.{Realm, Script, count_changed}
@@ -11,7 +12,9 @@ use Rattle.ecr_model.specs.sessions.Sessions.{Account, Chain, Exchange, Outside,
 use Rattle.ecr_model.proofs.lemmas.registry.ViewLemmas.{IsAhead-refl, IsAhead-trans, answers_stay, halts_go_on, visits_halt}
 use Rattle.ecr_model.proofs.lemmas.sessions.CallerLemmas.{AreBetween-front, entries_stay, tickets_rise, turns_stay}
 use Rattle.ecr_desk.specs.Desks.{DeskState, IsOf, PassState, SharedState, seen_with, terms_of}
-use Rattle.ecr_session.specs.Serving.{Answers, IsAnswered, IsFailed, IsServedOver, ServesOver}
+use Rattle.ecr_session.specs.Accounts.{AccountsFor, entries_in}
+use Rattle.ecr_session.specs.Serving.{Answers, HasEnded, IsAnswered, IsFailed, IsServedOver, ServesOver}
+use Rattle.ecr_session.proofs.FreshLemmas.{ServesAmong-between}
 use Rattle.ecr_session.proofs.MoveLemmas.{ServesBy-moves, exchanges_in}
 
 -- ---- one request
@@ -250,3 +253,29 @@ IsOf-after desk pass now first last fixed before after account end same gates is
     let one : Some now.gates ≡ Some pass.gates =
     sym gates ∙ stay ∙ ap (λ (d : DeskState). d.gates) same in
     some_same now.gates pass.gates one ∙ is
+
+-- the entries that were added under the pass
+pub counted_with : (desk : SharedState) (pass now : PassState) (first last : DeskState) (told cuts : List Cut)
+    → first ≡ seen_with desk pass → last.made ≡ now.made → told ≡ cuts → last.made ≡ first.made + entries_in cuts
+    → now.made ≡ pass.made + entries_in told
+counted_with desk pass now first last told cuts same made is counted =
+    let before : first.made ≡ pass.made = ap (λ (d : DeskState). d.made) same in
+    let entries : entries_in told ≡ entries_in cuts = ap entries_in is in
+    omega (arith, made, counted, before, entries)
+
+-- a session at the desk under that pass, of whose account nobody keeps anything
+pub AccountsFor-with : (desk : SharedState) (pass now : PassState) (first last : DeskState) (fixed : Option ℕ)
+    (before after : Outside) (account : Account) (end : End)
+    → first ≡ seen_with desk pass → last.views ≡ now.views → last.made ≡ now.made
+    → HasEnded (record { realm = first.realm; first = first; fixed = fixed }) before after account last end
+    → AccountsFor (record { realm = desk.realm; first = pass.views; fixed = fixed }) before after pass now end
+AccountsFor-with desk pass now first last fixed before after account end same views made s =
+    let serves = Serves-with desk pass now first last fixed before after account account end end same views refl refl
+    s.serves in
+    record {
+      account = account;
+      serves = serves;
+      fresh = ServesAmong-between (record { realm = desk.realm; first = pass.views; fixed = fixed }) before after
+          account now.views end serves;
+      counted = counted_with desk pass now first last account.cuts account.cuts same made refl s.counted;
+    }

@@ -176,23 +176,22 @@ Serves-mem set before mid after point q account last s opened n told = record {
 }
 
 -- there was no room for what is said, and nothing was read
-pub Serves-no_room : (set : SettingOf DeskState) (before mid : Outside) (point : Point) (account other : Account)
+pub Serves-no_room : (set : SettingOf DeskState) (before mid : Outside) (point : Point) (account : Account)
     (last : DeskState) → SoFar set before mid point account last
-    → point.closed ≡ false → other ≡ account → ServesOver set before mid other last ends.Mem
-Serves-no_room set before mid point account other last s opened same =
-    subst (λ a. ServesOver set before mid a last ends.Mem) (sym same) (record {
-      read = s.read;
-      exchanges = s.exchanges;
-      point = point;
-      within = s.within;
-      further = [];
-      consumed = s.consumed;
-      begins = s.begins;
-      goes_on = opened;
-      serviced = s.serviced;
-      told_to = inl refl;
-      sent = subst (Appends before.held mid.held) (sym (append-nil (sent_to s.exchanges))) s.sent;
-    })
+    → point.closed ≡ false → ServesOver set before mid account last ends.Mem
+Serves-no_room set before mid point account last s opened = record {
+  read = s.read;
+  exchanges = s.exchanges;
+  point = point;
+  within = s.within;
+  further = [];
+  consumed = s.consumed;
+  begins = s.begins;
+  goes_on = opened;
+  serviced = s.serviced;
+  told_to = inl refl;
+  sent = subst (Appends before.held mid.held) (sym (append-nil (sent_to s.exchanges))) s.sent;
+}
 
 -- ---- a write that failed
 

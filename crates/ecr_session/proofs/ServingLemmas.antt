@@ -1,7 +1,8 @@
 -- How a session goes on, request after request.
-use Rattle.std.proofs.Common.{◌≡◌, ℕ, ◌<◌, ◌≤◌, inl, inr, false, List, [], ◌∷◌, ◌++◌, map, refl, sym, ap, ◌∙◌, subst, arith, None, Some, Option}
+use Rattle.std.proofs.Common.{◌≡◌, ℕ, ◌+◌, ◌<◌, ◌≤◌, inl, inr, false, List, [], ◌∷◌, ◌++◌, map, refl, sym, ap, ◌∙◌, subst, arith, None, Some, Option}
 use Rattle.std.proofs.KnownBytes.{Appends-trans, Consumes-trans}
 use Rattle.std.proofs.lemmas.List.{map-append}
+use Rattle.std.proofs.lemmas.List.Sums.{sum_by_push}
 use Rattle.std.specs.Io.KnownBytes.{Consumes, Appends}
 use Rattle.ecr_model.specs.declared.http.Request.{Request}
 use Rattle.ecr_model.specs.declared.registry.journal.Place.{Place}
@@ -20,19 +21,10 @@ use Rattle.ecr_http.specs.declared.events.Event.TheVariants as events
 use Rattle.ecr_http.specs.declared.reply.HttpReply.{HttpReply}
 use Rattle.ecr_http.specs.declared.write.Sent.{Sent}
 use Rattle.ecr_http.specs.declared.write.Sent.TheVariants.{Done, WriteFault}
-use Rattle.ecr_session.specs.Serving.{SoFar, HasCome, GoesOn, AddsExchange, Answers, IsServedOver, ServesRequest, account_in, reply_bytes, standing_of, with_exchange}
-use Rattle.ecr_session.specs.declared.session.Session.{Session}
+use Rattle.ecr_model.specs.registry.Scripts.{count_changed}
+use Rattle.ecr_session.specs.Accounts.{entries_in, noted}
+use Rattle.ecr_session.specs.Serving.{SoFar, HasCome, GoesOn, AddsExchange, Answers, IsServedOver, ServesRequest, reply_bytes, standing_of, with_exchange}
 use Rattle.ecr_session.proofs.EndLemmas.{begins_grown, within_grown, Completed-closed}
-
--- room for more changes nothing
-pub HasCome-room : (set : SettingOf DeskState) (before mid : Outside) (old now : Session) (seen : DeskState)
-    → account_in now ≡ account_in old → now.reader ≡ old.reader
-    → HasCome set before mid old seen → HasCome set before mid now seen
-HasCome-room set before mid old now seen account reader s = record {
-  realm_stays = s.realm_stays;
-  so_far = subst (λ a. SoFar set before mid now.reader a seen) (sym account)
-      (subst (λ (p : Point). SoFar set before mid p (account_in old) seen) (sym reader) s.so_far);
-}
 
 -- ---- a request
 
@@ -98,12 +90,28 @@ begins_more read got es e point request n is begins =
     subst (λ (rs : List Request). Begins (start (read ++ got)) rs (past_request (grown point got) request n))
     (sym (requests_of-more es e request is)) begins
 
--- a moment, a list of places and a cut behind the others
-pub account_in-pushed : (old now : Session) (e : Exchange)
-    → now.moments.items ≡ old.moments.items ++ e.moment ∷ []
-    → map (λ v. v.items) now.places.items ≡ map (λ v. v.items) old.places.items ++ e.places ∷ []
-    → now.cuts.items ≡ old.cuts.items ++ e.cut ∷ [] → account_in now ≡ with_exchange (account_in old) e
-account_in-pushed old now e moments places cuts = cc
+-- the entries of exchanges and one more
+entries_more : (account : Account) (e : Exchange)
+    → entries_in (with_exchange account e).cuts ≡ entries_in account.cuts + e.cut.entries
+entries_more account e = sum_by_push (λ (c : Cut). c.entries) account.cuts e.cut
+
+-- a cut has the entries that were added
+Answers-counted : (before after : DeskState) (moment : ℕ) (request : Request) (contents : List (List ℕ))
+    (bytes : List ℕ) (places : List Place) (cut : Cut)
+    → Answers before after moment request contents bytes places cut → after.made ≡ before.made + cut.entries
+Answers-counted before after moment request contents bytes places cut (inl a) =
+    a.ran.counted ∙ ap (λ n. before.made + n) (sym a.entries)
+Answers-counted before after moment request contents bytes places cut (inr f) =
+    f.stopped.counted ∙ ap (λ n. before.made + n) (sym f.entries)
+
+-- the entries of a session and of the request that it served
+counted_more : (first seen later : DeskState) (account : Account) (e : Exchange)
+    → seen.made ≡ first.made + entries_in account.cuts
+    → Answers seen later e.moment e.request e.contents e.bytes e.places e.cut
+    → later.made ≡ first.made + entries_in (with_exchange account e).cuts
+counted_more first seen later account e so_far answers =
+    let more = Answers-counted seen later e.moment e.request e.contents e.bytes e.places e.cut answers in
+    omega (arith, so_far, more, entries_more account e)
 
 -- the sites and limits stay
 Answers-realm : (before after : DeskState) (moment : ℕ) (request : Request) (contents : List (List ℕ))
@@ -113,31 +121,27 @@ Answers-realm before after moment request contents bytes places cut (inl a) = a.
 Answers-realm before after moment request contents bytes places cut (inr f) = f.stopped.realm_stays
 
 -- an answer, with its moment and its reply as bytes, is an exchange
-pub AddsExchange-by : (fixed : Option ℕ) (request : Request) (before after : Outside) (old added now : Session)
-    (seen later : DeskState) (sent : Sent)
+pub AddsExchange-by : (stands : Account → Type 0) (fixed : Option ℕ) (request : Request) (before after : Outside)
+    (account : Account) (seen later : DeskState) (sent : Sent)
     (moment : ℕ) (reply : Option HttpReply) (places : List Place) (cut : Cut)
     → IsTime fixed before.told after.told moment
     → ((contents : List (List ℕ)) × Answers seen later moment request contents
     (reply_bytes (is_head request) (closes request) reply) places cut)
-    → added.moments.items ≡ old.moments.items ++ moment ∷ []
-    → map (λ v. v.items) added.places.items ≡ map (λ v. v.items) old.places.items ++ places ∷ []
-    → added.cuts.items ≡ old.cuts.items ++ cut ∷ []
-    → added.reader ≡ old.reader → now ≡ added → after.left ≡ before.left
+    → stands (noted account moment places cut) → after.left ≡ before.left
     → Sends before.held after.held (reply_bytes (is_head request) (closes request) reply) sent
-    → AddsExchange fixed request before old seen after now later sent
-AddsExchange-by fixed request before after old added now seen later sent moment reply places cut timed a moments lists
-    cuts reader kept left sends =
+    → AddsExchange stands fixed request before account seen after later sent
+AddsExchange-by stands fixed request before after account seen later sent moment reply places cut timed a added left
+    sends =
     let bytes : List ℕ = reply_bytes (is_head request) (closes request) reply in
-    let e : Exchange = record {
-      request = request;
-      moment = moment;
-      places = places;
-      cut = cut;
-      contents = a.0;
-      bytes = bytes;
-    } in
-    subst (λ (s : Session). AddsExchange fixed request before old seen after s later sent) (sym kept) (record {
-      exchange = e;
+    record {
+      exchange = record {
+        request = request;
+        moment = moment;
+        places = places;
+        cut = cut;
+        contents = a.0;
+        bytes = bytes;
+      };
       request_is = refl;
       served = record {
         realm_stays = Answers-realm seen later moment request a.0 bytes places cut a.1;
@@ -145,21 +149,23 @@ AddsExchange-by fixed request before after old added now seen later sent moment 
         timed = timed;
         answers = a.1;
       };
-      added = account_in-pushed old added e moments lists cuts;
-      reader = reader;
+      added = added;
       left = left;
       sends = sends;
-    })
+    }
 
 -- all of the reply was sent
-HasCome-serviced : (set : SettingOf DeskState) (before mid between after : Outside) (point : Point)
-    (old now : Session) (seen later : DeskState) (request : Request)
-    → seen.realm ≡ set.realm → SoFar set before mid point (account_in old) seen
-    → point.closed ≡ false → Nexts mid.left mid.held point between.left between.held old.reader
-    (events.Request request) → between.told ≡ mid.told
-    → AddsExchange set.fixed request between old seen after now later Done
-    → mid.read_faults ≤ after.read_faults → mid.write_faults ≤ after.write_faults → HasCome set before after now later
-HasCome-serviced set before mid between after point old now seen later request realm s opened n told v reads writes =
+HasCome-serviced : (stands : Account → Type 0) (set : SettingOf DeskState) (before mid between after : Outside)
+    (point read : Point) (account : Account) (seen later : DeskState) (request : Request)
+    → HasCome set before mid point account seen
+    → point.closed ≡ false → Nexts mid.left mid.held point between.left between.held read (events.Request request)
+    → between.told ≡ mid.told
+    → (v : AddsExchange stands set.fixed request between account seen after later Done)
+    → mid.read_faults ≤ after.read_faults → mid.write_faults ≤ after.write_faults
+    → HasCome set before after read (with_exchange account v.exchange) later
+HasCome-serviced stands set before mid between after point read account seen later request come opened n told v reads
+    writes =
+    let s = come.so_far in
     let es = s.exchanges in
     let e = v.exchange in
     let reads_so_far = s.reads_later in
@@ -169,41 +175,43 @@ HasCome-serviced set before mid between after point old now seen later request r
     subst (λ (r : Request). Appends mid.held after.held (interim (is_waiting r) ++ e.bytes)) (sym v.request_is)
     (Appends-trans mid.held between.held after.held due e.bytes n.gives.3 v.sends) in
     record {
-      realm_stays = v.served.realm_stays ∙ realm;
-      so_far = subst (λ a. SoFar set before after now.reader a later) (sym v.added) (record {
+      realm_stays = v.served.realm_stays ∙ come.realm_stays;
+      counted = counted_more set.first seen later account e come.counted v.served.answers;
+      so_far = record {
         read = s.read ++ n.got;
         exchanges = es ++ e ∷ [];
         within = within_grown s.read n.got (requests_of es) point s.begins n.within;
         consumed = subst (λ l. Consumes before.left l (s.read ++ n.got)) (sym v.left)
             (Consumes-trans before.left mid.left between.left s.read n.got s.consumed n.consumed);
         begins = subst (λ (x : Point). Begins (start (s.read ++ n.got)) (requests_of (es ++ e ∷ [])) x)
-            (sym (v.reader ∙ n.gives.2))
+            (sym n.gives.2)
             (begins_more s.read n.got es e point request n.gives.0 v.request_is
             (Begins-more (start (s.read ++ n.got)) (requests_of es) (grown point n.got) request n.gives.0
             (begins_grown s.read n.got (requests_of es) point s.begins) opened n.gives.1));
         serviced = serviced_more set before mid between after es e
-            (account_in old) seen later realm told s.serviced v.served;
+            account seen later come.realm_stays told s.serviced v.served;
         sent = subst (Appends before.held after.held) (sym (sent_to-more es e))
             (Appends-trans before.held mid.held after.held (sent_to es) (answer_to e) s.sent answer);
         reads_later = omega arith;
         writes_later = omega arith;
-      });
+      };
     }
 
 -- a part of the reply was sent
-CutOff-serviced : (set : SettingOf DeskState) (before mid between after : Outside) (point : Point) (old now : Session)
-    (seen later : DeskState) (request : Request)
-    → seen.realm ≡ set.realm → SoFar set before mid point (account_in old) seen
-    → point.closed ≡ false → Nexts mid.left mid.held point between.left between.held old.reader
-    (events.Request request) → between.told ≡ mid.told
-    → AddsExchange set.fixed request between old seen after now later WriteFault
-    → CutOffBy IsServedOver set before after (account_in now) later
-CutOff-serviced set before mid between after point old now seen later request realm s opened n told v =
+CutOff-serviced : (stands : Account → Type 0) (set : SettingOf DeskState) (before mid between after : Outside)
+    (point read : Point) (account : Account) (seen later : DeskState) (request : Request)
+    → HasCome set before mid point account seen
+    → point.closed ≡ false → Nexts mid.left mid.held point between.left between.held read (events.Request request)
+    → between.told ≡ mid.told
+    → (v : AddsExchange stands set.fixed request between account seen after later WriteFault)
+    → CutOffBy IsServedOver set before after (with_exchange account v.exchange) later
+CutOff-serviced stands set before mid between after point read account seen later request come opened n told v =
+    let s = come.so_far in
     let es = s.exchanges in
     let e = v.exchange in
     let due = interim (is_waiting request) in
     let sends : Sends between.held after.held e.bytes WriteFault = v.sends in
-    subst (λ a. CutOffBy IsServedOver set before after a later) (sym v.added) (record {
+    record {
       read = s.read ++ n.got;
       exchanges = es ++ e ∷ [];
       point = past_request (grown point n.got) request n.gives.0;
@@ -219,52 +227,61 @@ CutOff-serviced set before mid between after point old now seen later request re
           (Begins-more (start (s.read ++ n.got)) (requests_of es) (grown point n.got) request n.gives.0
           (begins_grown s.read n.got (requests_of es) point s.begins) opened n.gives.1);
       serviced = serviced_more set before mid between after es e
-          (account_in old) seen later realm told s.serviced v.served;
+          account seen later come.realm_stays told s.serviced v.served;
       is_last = inl (es, e, refl, ap (λ (r : Request). sent_to es ++ interim (is_waiting r)) (sym v.request_is), refl);
       parts = sends.2;
       sent = Appends-trans before.held between.held after.held (sent_to es ++ due) sends.0
           (Appends-trans before.held mid.held between.held (sent_to es) due s.sent n.gives.3) sends.3;
-    })
+    }
 
 -- a request that was read and served leads the session on, or ends it
-pub GoesOn-request : (set : SettingOf DeskState) (before mid between after : Outside) (point : Point)
-    (old now : Session) (seen later : DeskState) (request : Request) (end : Option End)
-    → seen.realm ≡ set.realm → SoFar set before mid point (account_in old) seen
-    → point.closed ≡ false → Nexts mid.left mid.held point between.left between.held old.reader
-    (events.Request request) → between.told ≡ mid.told
-    → ServesRequest set.fixed request between old seen after now later end
+pub GoesOn-request : (stands : Account → Type 0) (set : SettingOf DeskState) (before mid between after : Outside)
+    (point read now : Point) (account : Account) (seen later : DeskState) (request : Request) (end : Option End)
+    → HasCome set before mid point account seen
+    → point.closed ≡ false → Nexts mid.left mid.held point between.left between.held read (events.Request request)
+    → between.told ≡ mid.told → now ≡ read
+    → ServesRequest stands set.fixed request between account seen after later end
     → mid.read_faults ≤ after.read_faults → mid.write_faults ≤ between.write_faults
     → between.write_faults ≤ after.write_faults
     → (end ≡ Some ends.WriteFault → between.write_faults < after.write_faults)
-    → GoesOn set before after now later end
-GoesOn-request set before mid between after point old now seen later request None realm s opened n told v reads
-    told_later writes cause = (
-      HasCome-serviced set before mid between after point old now seen later request realm s opened n told v.0 reads
-          (omega arith),
-      ap (λ (x : Point). x.closed) (v.0.reader ∙ n.gives.2) ∙ v.1,
+    → GoesOn stands set before after now later end
+GoesOn-request stands set before mid between after point read now account seen later request None come opened n told
+    same v reads told_later writes cause = (
+      with_exchange account v.0.exchange,
+      v.0.added,
+      subst (λ (p : Point). HasCome set before after p (with_exchange account v.0.exchange) later) (sym same)
+          (HasCome-serviced stands set before mid between after point read account seen later request come opened n told
+          v.0 reads (omega arith)),
+      ap (λ (x : Point). x.closed) (same ∙ n.gives.2) ∙ v.1,
     )
-GoesOn-request set before mid between after point old now seen later request
-    (Some ends.Whole) realm s opened n told v reads told_later writes cause =
-    let come = HasCome-serviced set before mid between after point old now seen later request realm s opened n told v.0
-    reads (omega arith) in
-    record {
-      realm_stays = come.realm_stays;
-      serves = Completed-closed set before after now.reader (account_in now) later come.so_far
-          (ap (λ (x : Point). x.closed) (v.0.reader ∙ n.gives.2) ∙ v.1);
-    }
-GoesOn-request set before mid between after point old now seen later request
-    (Some ends.WriteFault) realm s opened n told v reads told_later writes cause =
+GoesOn-request stands set before mid between after point read now account seen later request
+    (Some ends.Whole) come opened n told same v reads told_later writes cause =
+    let on = HasCome-serviced stands set before mid between after point read account seen later request come opened n
+    told v.0 reads (omega arith) in (
+      with_exchange account v.0.exchange,
+      v.0.added,
+      record {
+        realm_stays = on.realm_stays;
+        counted = on.counted;
+        serves = Completed-closed set before after read (with_exchange account v.0.exchange) later on.so_far
+            (ap (λ (x : Point). x.closed) n.gives.2 ∙ v.1);
+      },
+    )
+GoesOn-request stands set before mid between after point read now account seen later request
+    (Some ends.WriteFault) come opened n told same v reads told_later writes cause =
     let rose = cause refl in
-    let so_far = s.writes_later in
-    record {
-      realm_stays = v.served.realm_stays ∙ realm;
-      serves = (
-        omega arith,
-        CutOff-serviced set before mid between after point old now seen later request realm s
-            opened n told v,
-      );
-    }
-GoesOn-request set before mid between after point old now seen later request
-    (Some _) realm s opened n told v reads told_later writes cause = absurd v
-
--- ---- entries
+    let so_far = come.so_far.writes_later in (
+      with_exchange account v.exchange,
+      v.added,
+      record {
+        realm_stays = v.served.realm_stays ∙ come.realm_stays;
+        counted = counted_more set.first seen later account v.exchange come.counted v.served.answers;
+        serves = (
+          omega arith,
+          CutOff-serviced stands set before mid between after point read account seen later request come
+              opened n told v,
+        );
+      },
+    )
+GoesOn-request stands set before mid between after point read now account seen later request
+    (Some _) come opened n told same v reads told_later writes cause = absurd v

@@ -1,6 +1,5 @@
 -- How far a session has come, and the bytes as which a request's answer is sent. Moments are in seconds.
-use Rattle.std.specs.Prelude.{◌≡◌, ◌<◌, ℕ, ◌≤◌, Bool, true, false, List, [], ◌∷◌, ◌++◌, ◌⊎◌, Option, None, Some, length, map, vec_len, vec_capacity}
-use Rattle.std.specs.List.{sum_by}
+use Rattle.std.specs.Prelude.{◌≡◌, ◌+◌, ℕ, ◌≤◌, Bool, true, false, List, [], ◌∷◌, ◌++◌, ◌⊎◌, Option, None, Some, length}
 use Rattle.std.specs.Io.KnownBytes.{Consumes, Appends}
 use Rattle.ecr_model.specs.declared.http.Request.{Request}
 use Rattle.ecr_model.specs.declared.registry.journal.Place.{Place}
@@ -22,7 +21,7 @@ use Rattle.ecr_http.specs.Sends.{Sends}
 use Rattle.ecr_http.specs.declared.reply.HttpReply.{HttpReply}
 use Rattle.ecr_http.specs.declared.write.Sent.{Sent}
 use Rattle.ecr_http.specs.declared.write.Sent.TheVariants.{Done, WriteFault}
-use Rattle.ecr_session.specs.declared.session.Session.{Session}
+use Rattle.ecr_session.specs.Accounts.{entries_in, noted}
 
 -- the bytes of a reply; none stands for the one where there was no memory
 abbrev pub reply_bytes : Bool → Bool → Option HttpReply → List ℕ
@@ -77,38 +76,9 @@ ServesOver set before after account last end = ServesBy IsServedOver set before 
 
 -- ---- what a session says
 
--- the account of its answered requests
-abbrev pub account_in : Session → Account
-account_in session = record {
-  moments = session.moments.items;
-  places = map (λ v. v.items) session.places.items;
-  cuts = session.cuts.items;
-}
-
 -- the account with one exchange more
 abbrev pub with_exchange : Account → Exchange → Account
-with_exchange account e = record {
-  moments = account.moments ++ e.moment ∷ [];
-  places = account.places ++ e.places ∷ [];
-  cuts = account.cuts ++ e.cut ∷ [];
-}
-
--- the number of entries that the requests of those cuts added
-abbrev pub entries_in : List Cut → ℕ
-entries_in cuts = sum_by (λ cut. cut.entries) cuts
-
--- there is room for what is said of one request more
-pub record HasRoom (session : Session) : Type 0 where
-  pub moments : vec_len session.moments < vec_capacity session.moments
-  pub places : vec_len session.places < vec_capacity session.places
-  pub cuts : vec_len session.cuts < vec_capacity session.cuts
-
--- a session that has read nothing
-pub record IsFresh (session : Session) : Type 0 where
-  pub reader : session.reader ≡ start []
-  pub moments : session.moments.items ≡ []
-  pub places : session.places.items ≡ []
-  pub cuts : session.cuts.items ≡ []
+with_exchange account e = noted account e.moment e.places e.cut
 
 -- ---- how far a session has come
 
@@ -126,48 +96,57 @@ pub record SoFar (set : SettingOf DeskState) (before after : Outside) (point : P
   pub reads_later : before.read_faults ≤ after.read_faults
   pub writes_later : before.write_faults ≤ after.write_faults
 
--- the same of a session over a desk
-pub record HasCome (set : SettingOf DeskState) (before after : Outside) (session : Session)
+-- the same of a session over a desk, whose entries are those that were added there
+pub record HasCome (set : SettingOf DeskState) (before after : Outside) (point : Point) (account : Account)
     (seen : DeskState) : Type 0 where
   pub realm_stays : seen.realm ≡ set.realm
-  pub so_far : SoFar set before after session.reader (account_in session) seen
+  pub counted : seen.made ≡ set.first.made + entries_in account.cuts
+  pub so_far : SoFar set before after point account seen
 
--- the session ended like that
-pub record HasEnded (set : SettingOf DeskState) (before after : Outside) (session : Session) (seen : DeskState)
+-- the session ended like that, and its entries are those that were added there
+pub record HasEnded (set : SettingOf DeskState) (before after : Outside) (account : Account) (seen : DeskState)
     (end : End) : Type 0 where
   pub realm_stays : seen.realm ≡ set.realm
-  pub serves : ServesOver set before after (account_in session) seen end
+  pub counted : seen.made ≡ set.first.made + entries_in account.cuts
+  pub serves : ServesOver set before after account seen end
 
--- the session goes on, and isn't closed, or ends like that
-abbrev pub GoesOn : SettingOf DeskState → Outside → Outside → Session → DeskState → Option End → Type 0
-GoesOn set before after session seen None = HasCome set before after session seen × (session.reader.closed ≡ false)
-GoesOn set before after session seen (Some end) = HasEnded set before after session seen end
+-- the session ended like that, by an account for which its keeper may stand
+abbrev pub EndsBy : (Account → Type 0) → SettingOf DeskState → Outside → Outside → DeskState → End → Type 0
+EndsBy stands set before after seen end =
+    (account : Account) × stands account × HasEnded set before after account seen end
+
+-- the session goes on, and isn't closed, or ends like that, by an account for which its keeper may stand
+abbrev pub GoesOn : (Account → Type 0) → SettingOf DeskState → Outside → Outside → Point → DeskState → Option End
+    → Type 0
+GoesOn stands set before after point seen None =
+    (account : Account) × stands account × HasCome set before after point account seen × (point.closed ≡ false)
+GoesOn stands set before after point seen (Some end) = EndsBy stands set before after seen end
 
 -- the standing of a session over a desk, between two requests
 abbrev pub standing_of : Option ℕ → Outside → DeskState → StandingOf DeskState
 standing_of fixed outside seen = record { realm = seen.realm; world = seen; fixed = fixed; told = outside.told }
 
--- a request was answered, its exchange stands in the account behind the others, and the reply was sent, or a part of it
-pub record AddsExchange (fixed : Option ℕ) (request : Request) (before : Outside) (old : Session) (seen : DeskState)
-    (after : Outside) (now : Session) (later : DeskState) (sent : Sent) : Type 0 where
+-- a request was answered, the keeper may stand for the account with its exchange behind the others, and the reply was
+-- sent, or a part of it
+pub record AddsExchange (stands : Account → Type 0) (fixed : Option ℕ) (request : Request) (before : Outside)
+    (account : Account) (seen : DeskState) (after : Outside) (later : DeskState) (sent : Sent) : Type 0 where
   pub exchange : Exchange
   pub request_is : exchange.request ≡ request
   pub served : IsServedOver (standing_of fixed before seen) exchange (standing_of fixed after later)
-  pub added : account_in now ≡ with_exchange (account_in old) exchange
-  pub reader : now.reader ≡ old.reader
+  pub added : stands (with_exchange account exchange)
   pub left : after.left ≡ before.left
   pub sends : Sends before.held after.held exchange.bytes sent
 
 -- the reply was sent, and the session ends where the request closes it; or a part of the reply was
-abbrev pub ServesRequest : Option ℕ → Request → Outside → Session → DeskState → Outside → Session → DeskState
-    → Option End → Type 0
-ServesRequest fixed request before old seen after now later None =
-    AddsExchange fixed request before old seen after now later Done × (closes request ≡ false)
-ServesRequest fixed request before old seen after now later (Some ends.Whole) =
-    AddsExchange fixed request before old seen after now later Done × (closes request ≡ true)
-ServesRequest fixed request before old seen after now later (Some ends.WriteFault) =
-    AddsExchange fixed request before old seen after now later WriteFault
-ServesRequest fixed request before old seen after now later (Some _) = ⊥
+abbrev pub ServesRequest : (Account → Type 0) → Option ℕ → Request → Outside → Account → DeskState → Outside
+    → DeskState → Option End → Type 0
+ServesRequest stands fixed request before account seen after later None =
+    AddsExchange stands fixed request before account seen after later Done × (closes request ≡ false)
+ServesRequest stands fixed request before account seen after later (Some ends.Whole) =
+    AddsExchange stands fixed request before account seen after later Done × (closes request ≡ true)
+ServesRequest stands fixed request before account seen after later (Some ends.WriteFault) =
+    AddsExchange stands fixed request before account seen after later WriteFault
+ServesRequest stands fixed request before account seen after later (Some _) = ⊥
 
 -- the reply to bytes that are no request was sent, and the session ends like that, or a part of the reply was
 abbrev pub SendsLast : Option (List ℕ) → Option (List ℕ) → List ℕ → End → End → Type 0

@@ -1,11 +1,9 @@
 // How a session is served, and what it says at its end.
-ghost use Rattle.std.specs.Prelude.{◌≡◌, [], map};
-ghost use Rattle.ecr_model.specs.declared.outcome.End.TheVariants.{Mem};
-ghost use Rattle.ecr_session.specs.Serving.{account_in};
+ghost use Rattle.std.specs.Prelude.{◌≡◌, map};
+ghost use Rattle.ecr_session.specs.Accounts.{account_in};
 
-use crate::session::Session;
+use crate::keeper::Kept;
 use ecr_model::{Cut, End, Moment, Place};
-use std::alloc::Global;
 
 /// How a session is served.
 #[derive(Clone, Copy)]
@@ -30,44 +28,26 @@ pub struct SessionEnd<P> {
 }
 
 /// What a session says at its end, with the pass of its caller.
-pub(crate) fn ended<P>(session: Session, end: End, pass: P) -> SessionEnd<P>
+pub(crate) fn ended<P>(kept: Kept, end: End, pass: P) -> SessionEnd<P>
     ensures account { (record {
       moments = result.moments.items;
       places = map (λ v. v.items) result.places.items;
       cuts = result.cuts.items;
-    }) ≡ account_in session }
-    ensures cuts { result.cuts.items ≡ session.cuts.items }
+    }) ≡ account_in kept }
+    ensures cuts { result.cuts.items ≡ kept.cuts.items }
     ensures end { result.end ≡ end }
     ensures pass { result.pass ≡ pass }
 {
-    let Session {
-        reader: _reader,
+    let Kept {
         moments,
         places,
         cuts,
-    } = session;
+    } = kept;
     SessionEnd {
         pass,
         moments,
         places,
         cuts,
         end,
-    }
-}
-
-/// What a session says that found no memory to begin.
-pub(crate) fn unbegun<P>(alloc: Global, pass: P) -> SessionEnd<P>
-    ensures moments { result.moments.items ≡ [] }
-    ensures places { result.places.items ≡ [] }
-    ensures cuts { result.cuts.items ≡ [] }
-    ensures end { result.end ≡ Mem }
-    ensures pass { result.pass ≡ pass }
-{
-    SessionEnd {
-        pass,
-        moments: Vec::new(alloc),
-        places: Vec::new(alloc),
-        cuts: Vec::new(alloc),
-        end: End::Mem,
     }
 }

@@ -9,6 +9,7 @@ mod describe;
 mod ending;
 mod fixed;
 mod host;
+mod keeper;
 mod session;
 mod shared;
 mod stages;
@@ -16,5 +17,5 @@ mod still;
 mod turns;
 
 pub use ending::{Mode, SessionEnd};
-pub use shared::serve_session;
+pub use shared::{LinkEnd, serve_link, serve_session};
 pub use still::session_still;

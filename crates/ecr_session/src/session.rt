@@ -1,54 +1,91 @@
-// What a session keeps, and how it goes on.
+// How a session goes on, and what it keeps.
+ghost use Rattle.std.specs.Prelude.{◌<◌, length};
 ghost use Rattle.ecr_model.specs.sessions.Sessions.{IsTime};
+ghost use Rattle.ecr_session.specs.Accounts.{no_account};
+ghost use Rattle.ecr_session.specs.Serving.{EndsBy};
 
 use crate::answer::answer_request;
 use crate::fixed::{bad_reply, is_head, long_reply};
+use crate::keeper::Keeper;
 use crate::stages::Stages;
 use ecr_desk::AnyDesk;
 use ecr_errors::fixed_500;
 use ecr_http::{Event, HttpReply, Reader, Sent, closes};
-use ecr_model::{Cut, End, Mem, Moment, Place, Request};
+use ecr_model::{End, Moment, Request};
 use ecr_outside::{Clock, Sink, Source, Stage};
 use json::Scratch;
 use std::alloc::Global;
 
-/// What a session keeps.
-#[derive(Drop)]
-pub struct Session {
-    pub reader: Reader,
-    /// One for each request that was answered, in seconds.
-    pub moments: Vec<Moment>,
-    /// One list for each request that was answered.
-    pub places: Vec<Vec<Place>>,
-    /// One for each request that was answered.
-    pub cuts: Vec<Cut>,
+/// Serves the requests of the source by the desk until the session ends. Gives the keeper of its account back, and says
+/// how it ended. The moment of a request is the fixed one, or else each time the clock's. The stages of each are passed.
+pub(crate) fn run_session<A: Keeper, D: AnyDesk, S: Source, K: Sink, C: Clock, G: Stages>(
+    alloc: Global,
+    desk: &mut D,
+    keeper: A,
+    fixed: Option<Moment>,
+    source: &mut S,
+    sink: &mut K,
+    clock: &mut C,
+    stages: &G,
+) -> (A, End)
+    requires none { A.stands_for keeper no_account }
+    requires some { 0 < length (D.seen desk.old).realm.served }
+    ensures serves { EndsBy (A.stands_for result.0)
+        (record { realm = (D.seen desk.old).realm; first = D.seen desk.old; fixed = fixed })
+        (record {
+          left = S.left source.old;
+          held = K.held sink.old;
+          told = C.told clock.old;
+          read_faults = S.faults source.old;
+          write_faults = K.faults sink.old;
+        })
+        (record {
+          left = S.left source.new;
+          held = K.held sink.new;
+          told = C.told clock.new;
+          read_faults = S.faults source.new;
+          write_faults = K.faults sink.new;
+        })
+        (D.seen desk.new) result.1 }
+{
+    let Ok(reader) = Reader::new(alloc) else {
+        return (keeper, End::Mem);
+    };
+    let mut scratch = Scratch::new(alloc);
+    let mut session = Session { reader, keeper };
+    let end = session.run(
+        alloc,
+        &mut scratch,
+        desk,
+        fixed,
+        source,
+        sink,
+        clock,
+        stages,
+    );
+    (session.keeper, end)
 }
 
-impl Session {
-    ghost use Rattle.std.specs.Prelude.{◌≡◌, ◌+◌, ◌-◌, ◌^◌, ◌<◌, ◌≤◌, ◌≢◌, ℕ, List, [], true, false, length, Option, Some, IfOk, IfNone, OnOk, vec_len, vec_capacity};
-    ghost use Rattle.ecr_model.specs.sessions.Sessions.{Outside, SettingOf};
+// What a session keeps: how far its source was read, and what its keeper has of its account.
+#[derive(Drop)]
+struct Session<A> {
+    reader: Reader,
+    keeper: A,
+}
+
+impl<A: Keeper> Session<A> {
+    ghost use Rattle.std.specs.Prelude.{◌≡◌, ◌+◌, ◌<◌, ◌≤◌, ◌≢◌, ℕ, List, [], false, length, Option, Some, IfOk, IfNone};
+    ghost use Rattle.ecr_model.specs.sessions.Sessions.{Account, Outside, SettingOf};
+    ghost use Rattle.ecr_session.specs.Accounts.{entries_in, no_account};
     ghost use Rattle.ecr_desk.specs.Desks.{DeskState};
-    ghost use Rattle.ecr_session.specs.Serving.{HasCome, GoesOn, HasEnded, HasRoom, ServesRequest, SendsLast, IsFresh, account_in, entries_in, reply_bytes};
+    ghost use Rattle.ecr_session.specs.Serving.{HasCome, GoesOn, EndsBy, ServesRequest, SendsLast, reply_bytes};
     ghost use Rattle.ecr_http.specs.Sends.{Sends};
     ghost use Rattle.ecr_model.specs.http.Replies.{is_head};
-    ghost use Rattle.ecr_model.specs.http.Stream.{closes};
+    ghost use Rattle.ecr_model.specs.http.Stream.{closes, start};
 
-    /// A session that has read nothing.
-    pub(crate) fn new(alloc: Global) -> Result<Session, Mem>
-        ensures { IfOk result IsFresh }
-    {
-        let reader = Reader::new(alloc)?;
-        Ok(Session {
-            reader,
-            moments: Vec::new(alloc),
-            places: Vec::new(alloc),
-            cuts: Vec::new(alloc),
-        })
-    }
-
-    /// Serves requests until the session ends, and says how. Their moment is the fixed one, or else each time the
-    /// clock's. Their bodies are read by the scratch. The stages of each are passed.
-    pub(crate) fn run<D: AnyDesk, S: Source, K: Sink, C: Clock, G: Stages>(
+    // Serves requests until the session ends, and says how. Their moment is the fixed one, or else each time the
+    // clock's. Their bodies are read by the scratch. The stages of each are passed.
+    fn run<D: AnyDesk, S: Source, K: Sink, C: Clock, G: Stages>(
         &mut self,
         alloc: Global,
         scratch: &mut Scratch,
@@ -59,9 +96,10 @@ impl Session {
         clock: &mut C,
         stages: &G,
     ) -> End
-        requires fresh { IsFresh self.old }
+        requires fresh { self.old.reader ≡ start [] }
+        requires none { A.stands_for self.old.keeper no_account }
         requires some { 0 < length (D.seen desk.old).realm.served }
-        ensures serves { HasEnded
+        ensures serves { EndsBy (A.stands_for self.new.keeper)
             (record { realm = (D.seen desk.old).realm; first = D.seen desk.old; fixed = fixed })
             (record {
               left = S.left source.old;
@@ -77,8 +115,7 @@ impl Session {
               read_faults = S.faults source.new;
               write_faults = K.faults sink.new;
             })
-            self.new (D.seen desk.new) result }
-        ensures counted { (D.seen desk.new).made ≡ (D.seen desk.old).made + entries_in self.new.cuts.items }
+            (D.seen desk.new) result }
     {
         loop {
             if let Some(end) = self.take_turn(
@@ -104,7 +141,8 @@ impl Session {
     ) -> Option<End>
         requires opened { self.old.reader.closed ≡ false }
         requires some { 0 < length (D.seen desk.old).realm.served }
-        ensures goes_on { (set : SettingOf DeskState) (before : Outside) → set.fixed ≡ fixed → HasCome set before
+        ensures goes_on { (set : SettingOf DeskState) (before : Outside) (account : Account)
+            → A.stands_for self.old.keeper account → set.fixed ≡ fixed → HasCome set before
             (record {
               left = S.left source.old;
               held = K.held sink.old;
@@ -112,8 +150,8 @@ impl Session {
               read_faults = S.faults source.old;
               write_faults = K.faults sink.old;
             })
-            self.old (D.seen desk.old)
-            → GoesOn set before
+            self.old.reader account (D.seen desk.old)
+            → GoesOn (A.stands_for self.new.keeper) set before
             (record {
               left = S.left source.new;
               held = K.held sink.new;
@@ -121,14 +159,12 @@ impl Session {
               read_faults = S.faults source.new;
               write_faults = K.faults sink.new;
             })
-            self.new (D.seen desk.new) result }
-        ensures counted { (D.seen desk.new).made + entries_in self.old.cuts.items ≡
-            (D.seen desk.old).made + entries_in self.new.cuts.items }
+            self.new.reader (D.seen desk.new) result }
 
-        // A turn adds a cut, and a list of cuts has an end.
-        ensures nearer { IfNone result (2 ^ 64 - vec_len self.new.cuts < 2 ^ 64 - vec_len self.old.cuts) }
+        // A turn notes a request, and there is an end of those that can be noted.
+        ensures nearer { IfNone result (A.left self.new.keeper < A.left self.old.keeper) }
     {
-        if self.make_room().is_err() {
+        if self.keeper.make_room().is_err() {
             return Some(End::Mem);
         }
         match self.reader.next(alloc, source, sink) {
@@ -153,18 +189,6 @@ impl Session {
         }
     }
 
-    // Takes the room for what is said of one more request.
-    fn make_room(&mut self) -> Result<(), Mem>
-        ensures room { OnOk result (HasRoom self.new) }
-        ensures account { account_in self.new ≡ account_in self.old }
-        ensures cuts { vec_len self.new.cuts ≡ vec_len self.old.cuts }
-        ensures reader { self.new.reader ≡ self.old.reader }
-    {
-        self.moments.reserve(1)?;
-        self.places.reserve(1)?;
-        self.cuts.reserve(1)
-    }
-
     // Answers one request, and sends the reply. What is said of it has its room.
     fn serve<D: AnyDesk, K: Sink, C: Clock, G: Stages>(
         &mut self,
@@ -178,34 +202,32 @@ impl Session {
         stages: &G,
     ) -> Option<End>
         requires some { 0 < length (D.seen desk.old).realm.served }
-        requires room { HasRoom self.old }
-        ensures serves { (left : Option (List ℕ)) (faults : ℕ) → ServesRequest fixed request.now
+        requires room { A.has_room self.old.keeper }
+        ensures serves { (left : Option (List ℕ)) (faults : ℕ) (account : Account)
+            → A.stands_for self.old.keeper account → ServesRequest (A.stands_for self.new.keeper) fixed request.now
             (record {
               left = left;
               held = K.held sink.old;
               told = C.told clock.old;
               read_faults = faults;
               write_faults = K.faults sink.old;
-            }) self.old (D.seen desk.old)
+            }) account (D.seen desk.old)
             (record {
               left = left;
               held = K.held sink.new;
               told = C.told clock.new;
               read_faults = faults;
               write_faults = K.faults sink.new;
-            }) self.new (D.seen desk.new) result }
-        ensures counted { (D.seen desk.new).made + entries_in self.old.cuts.items ≡
-            (D.seen desk.old).made + entries_in self.new.cuts.items }
-        ensures longer { vec_len self.new.cuts ≡ vec_len self.old.cuts + 1 }
+            }) (D.seen desk.new) result }
+        ensures reader { self.new.reader ≡ self.old.reader }
+        ensures nearer { A.left self.new.keeper < A.left self.old.keeper }
         ensures later { K.faults sink.old ≤ K.faults sink.new }
         ensures cause { result ≡ Some End.WriteFault → K.faults sink.old < K.faults sink.new }
     {
         let moment = moment_of(fixed, clock);
         stages.at(Stage::InCall);
         let answer = answer_request(alloc, scratch, desk, moment, request);
-        self.moments.push_reserved(moment);
-        self.places.push_reserved(answer.places);
-        self.cuts.push_reserved(answer.cut);
+        self.keeper.note(moment, answer.places, answer.cut);
         match self.send(sink, &answer.reply, request) {
             Sent::WriteFault => Some(End::WriteFault),
             Sent::Done => {

@@ -4,14 +4,15 @@ ghost use Rattle.ecr_model.specs.laws.SessionLaws.{all_places};
 ghost use Rattle.ecr_model.specs.sessions.Callers.{AreBetween, ServesAmong};
 ghost use Rattle.ecr_model.specs.sessions.Sessions.{Account, Outside, SettingOf};
 ghost use Rattle.ecr_desk.specs.Desks.{IsOf};
-ghost use Rattle.ecr_session.specs.Serving.{entries_in};
+ghost use Rattle.ecr_session.specs.Accounts.{AccountsFor, entries_in};
 
-use crate::ending::{Mode, SessionEnd, ended, unbegun};
-use crate::session::Session;
+use crate::ending::{Mode, SessionEnd, ended};
+use crate::keeper::{Kept, Unkept};
+use crate::session::run_session;
 use crate::stages::AtGate;
 use ecr_desk::{AtDesk, Desk, Seen};
+use ecr_model::End;
 use ecr_outside::{Clock, Gate, Sink, Source};
-use json::Scratch;
 use std::alloc::Global;
 use std::sync::Wait;
 
@@ -69,23 +70,79 @@ pub fn serve_session<W: Wait, D: Desk, S: Source, K: Sink, C: Clock, G: Gate>(
         (all_places (map (λ v. v.items) result.places.items)) }
     ensures counted { (D.Pass.seen result.pass).made ≡ (D.Pass.seen pass).made + entries_in result.cuts.items }
 {
-    match Session::new(alloc) {
-        Err(_) => unbegun(alloc, pass),
-        Ok(mut session) => {
-            let mut caller = AtDesk::new(rt, desk, pass);
-            let mut scratch = Scratch::new(alloc);
-            let stages = AtGate { rt, gate, worker };
-            let end = session.run(
-                alloc,
-                &mut scratch,
-                &mut caller,
-                mode.fixed,
-                source,
-                sink,
-                clock,
-                &stages,
-            );
-            ended(session, end, caller.into_pass())
-        }
+    let mut caller = AtDesk::new(rt, desk, pass);
+    let (kept, end) = run_session(
+        alloc,
+        &mut caller,
+        Kept::new(alloc),
+        mode.fixed,
+        source,
+        sink,
+        clock,
+        &AtGate { rt, gate, worker },
+    );
+    ended(kept, end, caller.into_pass())
+}
+
+/// How a link's session ended.
+#[derive(Drop)]
+pub struct LinkEnd<P> {
+    /// That of its caller.
+    pub pass: P,
+    pub end: End,
+}
+
+/// Serves the requests of the source as [`serve_session`] does, and keeps nothing of what it says of them, so that the
+/// memory that a link takes doesn't grow with the requests that it answered.
+pub fn serve_link<W: Wait, D: Desk, S: Source, K: Sink, C: Clock, G: Gate>(
+    rt: &W,
+    alloc: Global,
+    desk: &D,
+    pass: D::Pass,
+    mode: Mode,
+    worker: u32,
+    source: &mut S,
+    sink: &mut K,
+    clock: &mut C,
+    gate: &G,
+) -> LinkEnd<D::Pass>
+    requires plain { mode.control ≡ false }
+    requires some { 0 < length (D.shared desk.now).realm.served }
+    requires of { IsOf (D.shared desk.now) (D.Pass.seen pass) }
+
+    // There are moments, places and cuts by which the session is one that `serve_session` would have served.
+    ensures serves { AccountsFor
+        (record { realm = (D.shared desk.now).realm; first = (D.Pass.seen pass).views; fixed = mode.fixed })
+        (record {
+          left = S.left source.old;
+          held = K.held sink.old;
+          told = C.told clock.old;
+          read_faults = S.faults source.old;
+          write_faults = K.faults sink.old;
+        })
+        (record {
+          left = S.left source.new;
+          held = K.held sink.new;
+          told = C.told clock.new;
+          read_faults = S.faults source.new;
+          write_faults = K.faults sink.new;
+        })
+        (D.Pass.seen pass) (D.Pass.seen result.pass) result.end }
+    ensures of { IsOf (D.shared desk.now) (D.Pass.seen result.pass) }
+{
+    let mut caller = AtDesk::new(rt, desk, pass);
+    let (_unkept, end) = run_session(
+        alloc,
+        &mut caller,
+        Unkept::new(),
+        mode.fixed,
+        source,
+        sink,
+        clock,
+        &AtGate { rt, gate, worker },
+    );
+    LinkEnd {
+        pass: caller.into_pass(),
+        end,
     }
 }

@@ -4,14 +4,14 @@ ghost use Rattle.ecr_model.specs.laws.SessionLaws.{all_places};
 ghost use Rattle.ecr_model.specs.sessions.Sessions.{Account, Outside, Serves, Setting};
 ghost use Rattle.ecr_model.specs.registry.Soundness.{AreFresh};
 ghost use Rattle.ecr_desk.specs.Desks.{still_of};
-ghost use Rattle.ecr_session.specs.Serving.{entries_in};
+ghost use Rattle.ecr_session.specs.Accounts.{entries_in};
 
-use crate::ending::{Mode, SessionEnd, ended, unbegun};
-use crate::session::Session;
+use crate::ending::{Mode, SessionEnd, ended};
+use crate::keeper::Kept;
+use crate::session::run_session;
 use crate::stages::Unwatched;
 use ecr_desk::StillDesk;
 use ecr_outside::{Clock, Sink, Source};
-use json::Scratch;
 use std::alloc::Global;
 
 /// Serves the requests of the source by the desk until the session ends, and says how.
@@ -62,21 +62,15 @@ pub fn session_still<D: StillDesk, S: Source, K: Sink, C: Clock>(
 {
     // That the desk's journals are sound comes with what it serves.
     let _sites = desk.served();
-    match Session::new(alloc) {
-        Err(_) => unbegun(alloc, ()),
-        Ok(mut session) => {
-            let mut scratch = Scratch::new(alloc);
-            let end = session.run(
-                alloc,
-                &mut scratch,
-                desk,
-                mode.fixed,
-                source,
-                sink,
-                clock,
-                &Unwatched,
-            );
-            ended(session, end, ())
-        }
-    }
+    let (kept, end) = run_session(
+        alloc,
+        desk,
+        Kept::new(alloc),
+        mode.fixed,
+        source,
+        sink,
+        clock,
+        &Unwatched,
+    );
+    ended(kept, end, ())
 }

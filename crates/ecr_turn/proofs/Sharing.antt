@@ -20,6 +20,7 @@ use Rattle.ecr_turn.specs.contracts.turnstile.Pass.TheInside as inside
 use denote.Ref.{NamedLft}
 use denote.Struct.Declared.{shape}
 use Rattle.atomic_table.proofs.owned.Table.TheSendSync as table
+use Rattle.ecr_turn.proofs.bell.Bell.TheSendSync as bell
 use Rattle.ecr_turn.specs.contracts.turnstile.Held as Held
 use Rattle.ecr_turn.specs.contracts.turnstile.Turn as Turn
 use Rattle.ecr_turn.specs.contracts.turnstile.Turn.TheInside as within
@@ -50,8 +51,13 @@ Board-sync S g s = table.the_sync (Option.the_row (Box.the_row S Heap.the_row gh
     (Home-send S s) send sync frees
 
 Held-sync : (l : NamedLft) (S : RattleType) (g : Ghosts S.Denot) → IsSend S → IsSync (Held.the_field l S g).row
-Held-sync l S g s = struct_sync (shape (Held.the_type l S g))
-    (shr_sync _ _ _ (Board-sync S g s), (Place-sync S s, (search sendable, (search sendable, (search sendable, tt)))))
+Held-sync l S g s = struct_sync (shape (Held.the_type l S g)) (
+  shr_sync _ _ _ (Board-sync S g s),
+  (
+    shr_sync _ _ _ bell.the_sync,
+    (Place-sync S s, (search sendable, (search sendable, (search sendable, tt)))),
+  ),
+)
 
 Within-sync : (l : NamedLft) (S : RattleType) (g : Ghosts S.Denot) → IsSend S → IsSync S
     → IsSync (within.the_row l S g)

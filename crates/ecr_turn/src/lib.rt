@@ -5,6 +5,7 @@
 //! `specs/Turns.antt` has the rule, in seven points. Nothing is said of fairness, of deadlock or of time.
 #![tactic(auto)]
 
+mod bell;
 mod board;
 mod change;
 mod crossing;

@@ -1,11 +1,12 @@
 // The steps of a pass, on the table below a turnstile.
-ghost use Rattle.std.specs.Prelude.{◌≡◌, ◌≤◌, ◌+◌, ◌≢◌, ◌⊎◌, max, [], ◌∷◌, IfOk, IfErr, Some};
+ghost use Rattle.std.specs.Prelude.{◌≡◌, ◌≤◌, ◌+◌, ◌≢◌, ◌⊎◌, max, [], ◌∷◌, IfOk, IfErr, IfSome, IfNone, Some};
 ghost use Rattle.ecr_turn.specs.declared.board.Stage.TheVariants.{Idle, Waits};
 ghost use Rattle.ecr_model.specs.registry.Growth.{Each, Grows, Follows};
 ghost use Rattle.ecr_turn.specs.Journals.{IsBeginning, longer_of};
 ghost use Rattle.ecr_turn.specs.Steps.{waiting, naming};
 ghost use Rattle.ecr_turn.specs.Seats.{Lone, IsOf, IsAtRest, IsSameSeat, IsBack, Finds, TakesState, Sees, IsSettled, known_of};
 
+use crate::bell::Bell;
 use crate::board::{Board, Place};
 use crate::journal::Journal;
 use crate::plays::{Draw, Fork, Glue, Learn, Look, Name, PassOn, Record, TakeIn};
@@ -17,6 +18,9 @@ use std::thread::yield_now;
 
 // How often a thread looks whether it is its turn before it lets others run.
 const SPINS: u32 = 64;
+
+// How often a caller looks whether the turn is free before it sleeps.
+const LOOKS: u32 = 256;
 
 // The state in a list of its own.
 pub(crate) fn one_slot<S>(alloc: Global, state: S) -> Result<Vec<Option<Box<S, Global>>>, (S, Mem)>
@@ -51,24 +55,71 @@ pub(crate) fn out_of_slot<S>(mut slots: Vec<Option<Box<S, Global>>>) -> S
     Box::into_inner(state)
 }
 
+// Draws a ticket, if none is out.
+fn draw_now<S: Journal>(board: &Board<S>, seat: &mut Place<S>) -> Option<u64>
+    requires of { IsOf board.now.shared.table_id seat.old }
+    requires idle { seat.old.me.0.stage ≡ Idle }
+    ensures pass { seat.new.table_id ≡ seat.old.table_id }
+    ensures waits { IfSome result (λ t. seat.new.me ≡ (waiting t seat.old.me.0, seat.old.me.1)) }
+    ensures kept { IfNone result (seat.new.me ≡ seat.old.me) }
+{
+    let next = board.shared.peek(1);
+    if next == u64::MAX || board.shared.peek(2) != next {
+        return None;
+    }
+    let shared = &board.shared;
+    let found = shared.compare_exchange::<Draw>(seat, 1, next, next + 1);
+    if found != next {
+        return None;
+    }
+    Some(next)
+}
+
+// The same, looking for a while.
+fn draw_soon<S: Journal>(board: &Board<S>, seat: &mut Place<S>) -> Option<u64>
+    requires of { IsOf board.now.shared.table_id seat.old }
+    requires idle { seat.old.me.0.stage ≡ Idle }
+    ensures pass { seat.new.table_id ≡ seat.old.table_id }
+    ensures waits { IfSome result (λ t. seat.new.me ≡ (waiting t seat.old.me.0, seat.old.me.1)) }
+    ensures kept { IfNone result (seat.new.me ≡ seat.old.me) }
+{
+    for _ in 0..LOOKS {
+        if let Some(ticket) = draw_now(board, seat) {
+            return Some(ticket);
+        }
+        yield_now();
+    }
+    None
+}
+
+// Sleeps until a turn ends, if one is taken.
+fn doze<S: Journal, R: Wait>(board: &Board<S>, bell: &Bell, rt: &R)
+    requires { board.now.shared.table_id.words ≡ 4 }
+{
+    let heard = bell.listen();
+    // The look comes after the count, or the bell might not ring for this caller.
+    let taken = board.shared.peek(1) != board.shared.peek(2);
+    bell.sleep(rt, heard, taken);
+}
+
 // Draws a ticket, while none is out. Where callers queued up, each turn would have to go to one of their threads, which
 // with more threads than processors mostly isn't running.
-pub(crate) fn draw<S: Journal, R: Wait>(board: &Board<S>, rt: &R, seat: &mut Place<S>) -> u64
+pub(crate) fn draw<S: Journal, R: Wait>(
+    board: &Board<S>,
+    bell: &Bell,
+    rt: &R,
+    seat: &mut Place<S>,
+) -> u64
     requires of { IsOf board.now.shared.table_id seat.old }
     requires idle { seat.old.me.0.stage ≡ Idle }
     ensures pass { seat.new.table_id ≡ seat.old.table_id }
     ensures waits { seat.new.me ≡ (waiting result seat.old.me.0, seat.old.me.1) }
 {
     for _ in rt.forever() {
-        let next = board.shared.peek(1);
-        if next < u64::MAX && board.shared.peek(2) == next {
-            let shared = &board.shared;
-            let found = shared.compare_exchange::<Draw>(seat, 1, next, next + 1);
-            if found == next {
-                return next;
-            }
+        if let Some(ticket) = draw_soon(board, seat) {
+            return ticket;
         }
-        yield_now();
+        doze(board, bell, rt);
     }
     unreachable!()
 }
@@ -191,8 +242,14 @@ fn settle<S: Journal>(board: &Board<S>, seat: &mut Place<S>, ticket: u64, grown:
     board.shared.fetch_add::<Record<S>>(seat, 0, 1);
 }
 
-// Gives the turn away.
-pub(crate) fn pass_on<S: Journal>(board: &Board<S>, seat: &mut Place<S>, ticket: u64, grown: bool)
+// Gives the turn away. The bell rings only then, so that a caller which it wakes finds the turn free.
+pub(crate) fn pass_on<S: Journal>(
+    board: &Board<S>,
+    bell: &Bell,
+    seat: &mut Place<S>,
+    ticket: u64,
+    grown: bool,
+)
     requires of { IsOf board.now.shared.table_id seat.old }
     requires back { IsBack (λ b. S.lines b.value) (λ b. S.frame b.value) seat.old ticket grown }
     ensures pass { IsSameSeat seat.old seat.new × IsAtRest seat.new × (seat.new.me.0.past ≡ ticket + 1) }
@@ -200,4 +257,5 @@ pub(crate) fn pass_on<S: Journal>(board: &Board<S>, seat: &mut Place<S>, ticket:
 {
     settle(board, seat, ticket, grown);
     board.shared.fetch_add::<PassOn>(seat, 2, 1);
+    bell.ring();
 }

@@ -152,6 +152,67 @@ fn two_threads_enter_each_turn_once(rt: HostRuntime) -> Result<(), Fail> {
     Ok(())
 }
 
+// How often a turn looks for a caller that sleeps, and how often it lets others run once it has found one.
+const LOOKS: u32 = 1_000_000;
+
+const YIELDS: u32 = 1000;
+
+// Whether a caller sleeps before the looks are used up.
+fn has_sleeper(turnstile: &Turnstile<Log>) -> bool {
+    for _ in 0..LOOKS {
+        if turnstile.bell.sleepers() != 0 {
+            for _ in 0..YIELDS {
+                thread::yield_now();
+            }
+            return true;
+        }
+        thread::yield_now();
+    }
+    false
+}
+
+// One turn, with one entry. If it is the turnstile's first, it lasts until another caller sleeps.
+fn long_turn<R: Wait>(rt: &R, turnstile: &Turnstile<Log>, pass: Pass<Log>) -> (Pass<Log>, bool)
+    requires { pass.gate ≡ turnstile.now }
+    ensures { result.0.gate ≡ turnstile.now }
+{
+    let caller = pass.caller();
+    let mut turn = turnstile.enter(rt, pass);
+    let ticket = turn.ticket();
+    let slept = turn.value().lines.is_empty() && has_sleeper(turnstile);
+    turn.change().add(ticket, caller);
+    (turn.leave(), slept)
+}
+
+// Two threads, with one such turn each.
+fn two_long_turns<R: Threads + Wait + Sync>(
+    rt: &R,
+    turnstile: &Turnstile<Log>,
+    first: Pass<Log>,
+    second: Pass<Log>,
+) -> ((Pass<Log>, bool), (Pass<Log>, bool))
+    requires { (first.gate ≡ turnstile.now) × (second.gate ≡ turnstile.now) }
+    ensures { (result.0.0.gate ≡ turnstile.now) × (result.1.0.gate ≡ turnstile.now) }
+{
+    thread::join(
+        rt,
+        move || long_turn(rt, turnstile, first),
+        move || long_turn(rt, turnstile, second),
+    )
+}
+
+#[test]
+fn a_caller_that_sleeps_is_woken(rt: HostRuntime) -> Result<(), Fail> {
+    let (turnstile, mut first) = made(rt.alloc(), 2)?;
+    let second = turnstile.split(&rt, &mut first)?;
+    let callers = (first.caller(), second.caller());
+    let (one, other) = two_long_turns(&rt, &turnstile, first, second);
+    assert!(rt; one.1 != other.1);
+    assert!(rt; turnstile.bell.sleepers() == 0);
+    assert!(rt; counts(&rt, &turnstile, one.0, callers) == (2, 1, 1));
+    Ok(())
+}
+
 #[test]
 fn a_turnstile_has_a_hundred_thousand_turns(rt: HostRuntime) -> Result<(), Fail> {
     let (turnstile, first) = made(rt.alloc(), 100_000)?;

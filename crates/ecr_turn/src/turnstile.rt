@@ -6,6 +6,7 @@ ghost use Rattle.ecr_turn.specs.Journals.{MayFollow, IsBeginning, longer_of};
 ghost use Rattle.ecr_turn.specs.Passes.{first_pass, IsSamePass, IsAsWise, IsNewCaller};
 ghost use Rattle.ecr_turn.specs.Seats.{known_of};
 
+use crate::bell::Bell;
 use crate::board::{Board, Place};
 use crate::journal::Journal;
 use crate::steps::{absorb, draw, fork, one_slot, out_of_slot, pass_on, take};
@@ -20,6 +21,7 @@ use std::sync::Wait;
 #[derive(Drop)]
 pub struct Turnstile<S: Journal> {
     board: Board<S>,
+    pub(crate) bell: Bell,
 }
 
 impl<S: Journal> Model for Turnstile<S> {
@@ -58,6 +60,7 @@ impl<S: Journal> Model for Pass<S> {
 // What a turn keeps beside the state.
 struct Held<'a, S: Journal> {
     board: &'a Board<S>,
+    bell: &'a Bell,
     seat: Place<S>,
     ticket: u64,
     caller: u64,
@@ -100,7 +103,10 @@ impl<S: Journal> Turnstile<S> {
         let made: Result<(Board<S>, Place<S>), Refused<Option<Box<S, Global>>, Global>> =
             Table::new(alloc, &words, slots, &about);
         match made {
-            Ok((board, seat)) => Ok((Turnstile { board }, Pass { seat, caller: 0 })),
+            Ok((board, seat)) => {
+                let bell = Bell::new();
+                Ok((Turnstile { board, bell }, Pass { seat, caller: 0 }))
+            }
             Err(refused) => {
                 let Refused { slots } = refused;
                 Err((out_of_slot(slots), Mem))
@@ -118,13 +124,14 @@ impl<S: Journal> Turnstile<S> {
         ensures grows { Grows pass.caller pass.past pass.seen (S.lines result.state) }
         ensures below { Rises 0 (S.lines result.state) result.ticket }
     {
-        let board = &self.board;
+        let (board, bell) = (&self.board, &self.bell);
         let Pass { mut seat, caller } = pass;
-        let ticket = draw(board, rt, &mut seat);
+        let ticket = draw(board, bell, rt, &mut seat);
         let state = take(board, rt, &mut seat, ticket);
         let count = state.entries();
         let held = Held {
             board,
+            bell,
             seat,
             ticket,
             caller,
@@ -198,6 +205,7 @@ impl<'a, S: Journal> Turn<'a, S> {
         let Turn { held, state } = self;
         let Held {
             board,
+            bell,
             mut seat,
             ticket,
             caller,
@@ -206,7 +214,7 @@ impl<'a, S: Journal> Turn<'a, S> {
         let grown = state.entries() != count;
         let empty = board.shared.exchange(&mut seat, 0, Some(state));
         let None = empty else { unreachable!() };
-        pass_on(board, &mut seat, ticket, grown);
+        pass_on(board, bell, &mut seat, ticket, grown);
         Pass { seat, caller }
     }
 }

@@ -1,11 +1,11 @@
-use Rattle.std.proofs.Common.{◌≡◌, ◌<◌, ◌+◌, ◌-◌, ◌^◌, false, length}
-use Rattle.std.specs.Vec.{vec_len}
-use Rattle.ecr_session.specs.Serving.{HasCome, entries_in}
+use Rattle.std.proofs.Common.{◌≡◌, ◌<◌, false, length}
+use Rattle.ecr_model.specs.sessions.Sessions.{Account}
+use Rattle.ecr_session.specs.Serving.{HasCome}
 use Rattle.ecr_session.proofs.session.Session.run.Given as goal
 
 abbrev pub invariant-loop-end : goal.invariant-loop-end
 invariant-loop-end g l = record {
-  come : HasCome
+  come : (account : Account) × g.A.Keeper.stands_for l.self.keeper account × HasCome
       (record {
         realm = (g.D.AnyDesk.seen l.initial.desk).realm;
         first = (g.D.AnyDesk.seen l.initial.desk);
@@ -25,11 +25,10 @@ invariant-loop-end g l = record {
         read_faults = g.S.Source.faults l.source;
         write_faults = g.K.Sink.faults l.sink;
       })
-      l.self (g.D.AnyDesk.seen l.desk);
+      l.self.reader account (g.D.AnyDesk.seen l.desk);
   opened : l.self.reader.closed ≡ false;
   some : 0 < length (g.D.AnyDesk.seen l.desk).realm.served;
-  counted : (g.D.AnyDesk.seen l.desk).made ≡ (g.D.AnyDesk.seen l.initial.desk).made + entries_in l.self.cuts.items;
 }
 
 abbrev pub decreases-loop-end : goal.decreases-loop-end
-decreases-loop-end g l = 2 ^ 64 - vec_len l.self.cuts
+decreases-loop-end g l = g.A.Keeper.left l.self.keeper
