@@ -23,7 +23,7 @@ pub(crate) fn time<R: Wait + Clock + Print>(rt: &R, alloc: Global) -> io::Result
     timed
 }
 
-fn sites(alloc: Global) -> Result<Vec<SiteId>, Mem> {
+pub(crate) fn sites(alloc: Global) -> Result<Vec<SiteId>, Mem> {
     let site = SiteId {
         region: SharedText::copy_of(alloc, b"us-east-1")?,
         account: SharedText::copy_of(alloc, b"111122223333")?,
@@ -55,7 +55,7 @@ fn time_calls<R: Clock + Print, D: AnyDesk>(
 }
 
 /// A description in each even turn, and in the odd ones the tags are made immutable and mutable by turns.
-fn call_of(turn: u64) -> Call {
+pub(crate) fn call_of(turn: u64) -> Call {
     let mutability = if turn % 4 == 1 {
         Mutability::Immutable
     } else {

@@ -8,6 +8,8 @@ use ecr_turn::{Journal, Pass, Turnstile};
 use std::alloc::Global;
 use std::marker::Model;
 use std::sync::{Arc, Mutex, Wait};
+use std::thread;
+use std::time::{Clock, Duration};
 
 /// A list of entries.
 #[derive(Drop)]
@@ -83,6 +85,9 @@ pub(crate) trait Hand {
 
     /// Adds an entry.
     fn add<R: Wait>(&mut self, rt: &R);
+
+    /// Holds it for so long.
+    fn hold<R: Wait + Clock>(&mut self, rt: &R, time: Duration);
 }
 
 /// One who takes the lock before a list.
@@ -104,6 +109,12 @@ impl Hand for Locked {
 
     fn add<R: Wait>(&mut self, rt: &R) {
         self.list.lock(rt).add(0, 0);
+    }
+
+    fn hold<R: Wait + Clock>(&mut self, rt: &R, time: Duration) {
+        let held = self.list.lock(rt);
+        thread::sleep(rt, time);
+        drop(held);
     }
 }
 
@@ -152,6 +163,26 @@ impl Hand for Visitor {
         let pass = self.pass.take().unwrap();
         self.pass = Some(one_turn(rt, &self.turnstile, pass));
     }
+
+    fn hold<R: Wait + Clock>(&mut self, rt: &R, time: Duration) {
+        let pass = self.pass.take().unwrap();
+        self.pass = Some(one_long_turn(rt, &self.turnstile, pass, time));
+    }
+}
+
+// A turn that takes so long, and adds nothing.
+fn one_long_turn<R: Wait + Clock>(
+    rt: &R,
+    turnstile: &Turnstile<Log>,
+    pass: Pass<Log>,
+    time: Duration,
+) -> Pass<Log>
+    requires { pass.gate ≡ turnstile.now }
+    ensures { result.gate ≡ turnstile.now }
+{
+    let turn = turnstile.enter(rt, pass);
+    thread::sleep(rt, time);
+    turn.leave()
 }
 
 // A turn with one entry.

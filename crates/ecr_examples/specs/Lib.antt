@@ -12,3 +12,4 @@ pub mod Policies
 pub mod Json
 pub mod Kept
 pub mod Facts
+pub mod Places

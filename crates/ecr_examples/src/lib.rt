@@ -11,6 +11,7 @@ mod json;
 mod kept;
 mod manifests;
 mod names;
+mod places;
 mod policies;
 mod refusals;
 mod replies;
@@ -31,6 +32,7 @@ pub use manifests::{
 pub use names::{
     digests_are_read, limits_are_these, names_have_their_form, sites_are_read, tags_are_read,
 };
+pub use places::places_are_compared;
 pub use policies::{
     policies_are_read, rules_are_compared, rules_are_read, selections_are_read, values_are_read,
 };
