@@ -1,0 +1,9 @@
+pub mod Births
+pub mod Copying
+pub mod Counts
+pub mod Listing
+pub mod Members
+pub mod Numbers
+pub mod Owning
+pub mod Sharing
+pub mod Views
