@@ -59,7 +59,7 @@ fn of_digits(digits: &[u8]) -> Option<Digest>
 }
 
 /// Whether each byte is one of `[0-9a-f]`.
-fn are_hex_digits(text: &[u8]) -> bool
+pub(crate) fn are_hex_digits(text: &[u8]) -> bool
     ensures { result ≡ list_all is_hex_digit text.now }
 {
     text.iter().all(|byte| is_hex_digit(*byte))

@@ -15,7 +15,8 @@ mod uploads;
 pub use digests::{digest_has_one_text, read_digest, write_digest};
 pub use names::{is_name, name_has_one_test, read_name};
 pub use sites::{
-    read_site, site_has_one_reader, utf8_or_empty, write_arn, write_arn_at, write_uri, write_uri_at,
+    read_site, site_has_one_reader, utf8_or_empty, write_arn, write_arn_at, write_download_url_at,
+    write_uri, write_uri_at,
 };
 pub use tags::{is_tag, read_tag};
-pub use uploads::write_upload_id;
+pub use uploads::{read_upload_id, upload_id_has_one_text, write_upload_id};

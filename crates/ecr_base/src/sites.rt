@@ -4,9 +4,10 @@ ghost use Rattle.std.specs.Bool.{OnTrue};
 ghost use Rattle.std.specs.List.{list_all};
 ghost use Rattle.ecr_model.specs.declared.names.Name.{Name};
 ghost use Rattle.ecr_model.specs.declared.names.SiteId.{SiteId};
-ghost use Rattle.ecr_model.specs.names.Sites.{IsSite, ReadsSite, arn_of, is_account, is_digit, is_region, is_region_byte, is_site_word, site_of, site_word, uri_of, utf8_or_empty};
+ghost use Rattle.ecr_model.specs.names.Sites.{IsSite, ReadsSite, arn_of, download_url, is_account, is_digit, is_region, is_region_byte, is_site_word, site_of, site_word, uri_of, utf8_or_empty};
 
-use ecr_model::{Mem, RepoKey, SharedText, SiteId};
+use crate::write_digest;
+use ecr_model::{Digest, Mem, RepoKey, SharedText, SiteId};
 use std::alloc::Global;
 
 /// The bytes of an account and of the `/` before it.
@@ -152,6 +153,33 @@ fn utf8_in(bytes: Vec<u8>) -> String
         Ok(text) => text,
         Err(_) => unreachable!(),
     }
+}
+
+/// The address from which a layer of the repository of that name at the site is downloaded:
+/// `http://ACCOUNT.dkr.ecr.REGION.amazonaws.com/v2/NAME/blobs/DIGEST`, or the empty text where that isn't UTF-8.
+#[tactic(auto, unfolding(ecr_model::specs::names::Sites::download_url))]
+pub fn write_download_url_at(
+    alloc: Global,
+    site: &SiteId,
+    name: &[u8],
+    digest: &Digest,
+) -> Result<String, Mem>
+    ensures written { IfOk result
+        (λ text. string_bytes text
+        ≡ download_url (record { site = site.now; name = record { text = name.now } }) digest.now) }
+{
+    let digest = write_digest(alloc, digest)?;
+    let room = room_for(site, name).saturating_add(digest.len());
+    let mut url = Vec::with_capacity(alloc, room)?;
+    url.extend_from_slice(b"http://")?;
+    url.extend_from_slice(site.account.as_bytes())?;
+    url.extend_from_slice(b".dkr.ecr.")?;
+    url.extend_from_slice(site.region.as_bytes())?;
+    url.extend_from_slice(b".amazonaws.com/v2/")?;
+    url.extend_from_slice(name)?;
+    url.extend_from_slice(b"/blobs/")?;
+    url.extend_from_slice(digest.as_bytes())?;
+    Ok(utf8_from(alloc, url))
 }
 
 /// Room for an ARN or a URI of that name, in bytes: what stands around its parts takes less than this.

@@ -1,9 +1,12 @@
 use crate::{
-    is_name, is_tag, read_digest, read_name, read_site, read_tag, utf8_or_empty, write_arn,
-    write_digest, write_upload_id, write_uri,
+    is_name, is_tag, read_digest, read_name, read_site, read_tag, read_upload_id, utf8_or_empty,
+    write_arn, write_digest, write_download_url_at, write_upload_id, write_uri,
 };
 use ecr_model::RepoKey;
 use std::test::Fail;
+
+/// The digest of `abc` (FIPS 180-4's own example).
+const ABC: &str = "sha256:ba7816bf8f01cfea414140de5dae2223b00361a396177a9cb410ff61f20015ad";
 
 #[test]
 fn a_name_is_words_with_joints(rt: HostRuntime) -> Result<(), Fail> {
@@ -52,16 +55,21 @@ fn a_site_is_a_region_and_an_account(rt: HostRuntime) -> Result<(), Fail> {
         uri.as_str(),
         "111122223333.dkr.ecr.us-east-1.amazonaws.com/team/app"
     );
+    let digest = read_digest(ABC.as_bytes()).ok_or("no digest")?;
+    let url = write_download_url_at(rt.alloc(), &key.site, key.name.text.as_bytes(), &digest)?;
+    assert_eq!(rt;
+        url.as_str(),
+        "http://111122223333.dkr.ecr.us-east-1.amazonaws.com/v2/team/app/blobs/sha256:ba7816bf8f01cfea414140de5dae2223b00361a396177a9cb410ff61f20015ad"
+    );
     Ok(())
 }
 
 #[test]
 fn a_digest_is_read_as_it_is_written(rt: HostRuntime) -> Result<(), Fail> {
-    let abc = "sha256:ba7816bf8f01cfea414140de5dae2223b00361a396177a9cb410ff61f20015ad";
-    let digest = read_digest(abc.as_bytes()).ok_or("no digest")?;
+    let digest = read_digest(ABC.as_bytes()).ok_or("no digest")?;
     assert_eq!(rt; digest.bytes[0], 0xba);
     assert_eq!(rt; digest.bytes[31], 0xad);
-    assert_eq!(rt; write_digest(rt.alloc(), &digest)?.as_str(), abc);
+    assert_eq!(rt; write_digest(rt.alloc(), &digest)?.as_str(), ABC);
     for text in [
         "",
         "sha256:ba7816",
@@ -102,6 +110,19 @@ fn an_upload_id_is_its_number(rt: HostRuntime) -> Result<(), Fail> {
     .iter()
     {
         assert_eq!(rt; write_upload_id(rt.alloc(), *number)?.as_str(), *id);
+        assert_eq!(rt; read_upload_id(id.as_bytes()), Some(*number), "{id}");
+    }
+    for text in [
+        "",
+        "00000000-0000-0000-0000-00000000001",
+        "00000000-0000-0000-0000-00000000000A",
+        "00000000-0000-0000-00000-00000000001",
+        "00000000-0000-0001-0000-000000000001",
+        "00000000-0000-0000-0000-0000000000001",
+    ]
+    .iter()
+    {
+        assert_eq!(rt; read_upload_id(text.as_bytes()), None, "{text}");
     }
     Ok(())
 }

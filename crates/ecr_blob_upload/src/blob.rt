@@ -1,6 +1,7 @@
 // Bytes that are named by their digest.
 ghost use Rattle.std.specs.Prelude.{◌≡◌, IfOk};
 ghost use Rattle.ecr_model.specs.registry.Content.{content_digest};
+ghost use Rattle.sha2.specs.Hashers.{Holds256};
 
 use crate::Bytes;
 use ecr_model::{Digest, Mem};
@@ -36,6 +37,18 @@ impl Blob {
         let digest = content_digest(&bytes);
         let content = Bytes::of(alloc, bytes)?;
         Ok(Blob { content, digest })
+    }
+
+    /// The blob of content that the hasher holds.
+    #[tactic(auto, unfolding(ecr_model::specs::registry::Content::content_digest))]
+    pub(crate) fn hashed(content: Bytes, hasher: Sha256) -> Blob
+        requires held { Holds256 hasher content }
+        ensures exact { result ≡ content }
+    {
+        let digest = Digest {
+            bytes: hasher.finalize(),
+        };
+        Blob { content, digest }
     }
 
     /// The SHA-256 of the bytes (FIPS 180-4, section 6.2), which was computed when the blob was made.

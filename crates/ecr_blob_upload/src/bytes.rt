@@ -46,6 +46,14 @@ impl Bytes {
     }
 }
 
+impl Clone for Bytes {
+    ghost is_clone = { λ bytes copy. copy ≡ bytes };
+
+    fn clone(&self) -> Result<Bytes, Mem> {
+        self.share()
+    }
+}
+
 #[cfg(test)]
 mod tests {
     use crate::Bytes;

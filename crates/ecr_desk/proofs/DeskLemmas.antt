@@ -7,13 +7,13 @@ use Rattle.ecr_model.specs.declared.registry.journal.Place.{Place}
 use Rattle.ecr_model.specs.declared.names.RepoKey.{RepoKey}
 use Rattle.ecr_model.specs.requests.Requests.{Decided, first_ask, first_turn, then_cell, call_script}
 use Rattle.ecr_model.specs.laws.ScriptLaws.{RunsThen}
-use Rattle.ecr_model.specs.registry.Scripts.{Ask, Told, Script, ends, turn, then_do, World, Journals, Parts, count_changed, run, run_to}
+use Rattle.ecr_model.specs.registry.Scripts.{Ask, Told, Script, ends, turn, then_do, Realm, World, Journals, Parts, count_changed, run, run_to}
 use Rattle.ecr_model.specs.registry.Soundness.{AreSound}
 use Rattle.ecr_model.specs.laws.ViewLaws.{IsFirst, IsRun}
-use Rattle.ecr_model.specs.registry.Views.{Views, Terms, PlacedTurn, journals_of, places_of, alone_in, views_of, unsealed, Visits, Halts}
+use Rattle.ecr_model.specs.registry.Views.{Views, Terms, PlacedTurn, journals_of, places_of, alone_in, views_of, turns_of, AreOwnSeals, Visits, Halts}
 use Rattle.ecr_model.proofs.lemmas.registry.ScriptLemmas.{run-then_do, run_to-all, run_to-first, run_to-none, run_to-then, count_changed-append, count_changed-run}
-use Rattle.ecr_model.proofs.lemmas.registry.StillViewLemmas.{runs_visit, visits_run, halts_run_to}
-use Rattle.ecr_model.proofs.lemmas.registry.ViewLemmas.{visits_then, halts_here, halts_first, halts_then, visits_halt, places_of-append, places_of-unsealed}
+use Rattle.ecr_model.proofs.lemmas.registry.StillViewLemmas.{runs_visit, visits_run, halts_run_to, own_seals-none, own_seals-turns_of, own_seals-first, own_seals-then, places_of-turns_of}
+use Rattle.ecr_model.proofs.lemmas.registry.ViewLemmas.{visits_then, halts_here, halts_first, halts_then, visits_halt, places_of-append}
 use Rattle.ecr_desk.specs.Desks.{DeskState, StillState, terms_of, seen_by, still_of, IsStill, run_on, Ran, Stopped, StoppedWithin, Runs, RunsTo}
 
 -- ---- a caller that is alone
@@ -50,7 +50,7 @@ Ran-runs {A} before after script answer places still ran =
     subst (λ (v : Views). Visits (alone_in desk.realm) v after.views script ran.turns answer) views
     (subst (λ (t : Terms). Visits t before.views after.views script ran.turns answer) terms ran.visited) in
     let is : IsRun A desk.realm desk.world script after.views ran.turns answer =
-    visits_run desk.realm desk.world after.views script ran.turns answer visited in
+    visits_run desk.realm desk.world after.views script ran.turns answer visited (ran.seals_are still) in
     let placed : places ≡ (run_on desk script).places = ran.placed ∙ is.places_are in
     let entries : count_changed places ≡ (run_on desk script).entries =
     ap count_changed placed ∙ count_changed-run desk.realm desk.world script in
@@ -66,27 +66,43 @@ Ran-runs {A} before after script answer places still ran =
       };
     }
 
+-- and the turns are its
+pub Ran-turns : {A : Type 0} (before after : DeskState) (script : Script A) (answer : A) (places : List Place)
+    → IsStill before → (ran : Ran before after script answer places)
+    → ran.turns ≡ turns_of before.realm (still_of before).world script
+Ran-turns {A} before after script answer places still ran =
+    let desk : StillState = still_of before in
+    let visited : Visits (alone_in desk.realm) (views_of desk.world.journals) after.views script ran.turns answer =
+    subst (λ (v : Views). Visits (alone_in desk.realm) v after.views script ran.turns answer)
+    (ap (λ (s : DeskState). s.views) still)
+    (subst (λ (t : Terms). Visits t before.views after.views script ran.turns answer) (ap terms_of still) ran.visited) in
+    let is : IsRun A desk.realm desk.world script after.views ran.turns answer =
+    visits_run desk.realm desk.world after.views script ran.turns answer visited (ran.seals_are still) in
+    is.turns_are
+
 -- a run is the turns of a still desk
 pub Runs-ran : {A : Type 0} (before after : StillState) (script : Script A) (answer : A) (places : List Place)
     → AreSound before.realm before.world.journals → Runs before after script answer places
     → Ran (seen_by before) (seen_by after) script answer places
 Runs-ran before after script answer places sound runs =
     let all = run_on before script in
+    let turns : List PlacedTurn = turns_of before.realm before.world script in
     let visited : Visits (alone_in before.realm) (views_of before.world.journals)
-    (views_of after.world.journals) script (unsealed all.places) answer =
+    (views_of after.world.journals) script turns answer =
     subst (λ a. Visits (alone_in before.realm) (views_of before.world.journals) (views_of after.world.journals) script
-    (unsealed all.places) a) (sym runs.answered)
+    turns a) (sym runs.answered)
     (subst (λ (w : World). Visits (alone_in before.realm) (views_of before.world.journals)
-    (views_of w.journals) script (unsealed all.places) all.answer) (sym runs.left)
+    (views_of w.journals) script turns all.answer) (sym runs.left)
     (runs_visit before.realm before.world script sound)) in
     let entries : count_changed places ≡ all.entries =
     ap count_changed runs.placed ∙ count_changed-run before.realm before.world script in
     record {
       realm_stays = runs.realm_stays;
       gates_stay = refl;
-      turns = unsealed all.places;
+      turns = turns;
       visited = visited;
-      placed = runs.placed ∙ sym (places_of-unsealed all.places);
+      placed = runs.placed ∙ sym (places_of-turns_of before.realm before.world script);
+      seals_are = λ still. own_seals-turns_of before.realm before.world script;
       counted = omega (arith, runs.counted, entries);
       parts_are = λ still. ap (λ (w : World). w.parts) runs.left;
     }
@@ -95,12 +111,13 @@ Runs-ran before after script answer places sound runs =
 halts-still : {A : Type 0} (before : DeskState) (now : Views) (script : Script A) (turns : List PlacedTurn)
     → IsStill before
     → Halts (terms_of before) before.views now script turns
+    → AreOwnSeals before.realm (still_of before).world script turns
     → IsFirst A before.realm (still_of before).world script now turns
-halts-still before now script turns still halted =
+halts-still before now script turns still halted own =
     let desk : StillState = still_of before in
     halts_run_to desk.realm desk.world now script turns
     (subst (λ (v : Views). Halts (alone_in desk.realm) v now script turns) (ap (λ (s : DeskState). s.views) still)
-    (subst (λ (t : Terms). Halts t before.views now script turns) (ap terms_of still) halted))
+    (subst (λ (t : Terms). Halts t before.views now script turns) (ap terms_of still) halted)) own
 
 -- on a desk of one caller, first turns are those of a run up to their entries
 pub Stopped-runs_to : {A : Type 0} (before after : DeskState) (script : Script A) → IsStill before
@@ -109,7 +126,7 @@ pub Stopped-runs_to : {A : Type 0} (before after : DeskState) (script : Script A
 Stopped-runs_to {A} before after script still stopped =
     let desk : StillState = still_of before in
     let first : IsFirst A desk.realm desk.world script after.views stopped.turns =
-    halts-still before after.views script stopped.turns still stopped.halted in
+    halts-still before after.views script stopped.turns still stopped.halted (stopped.seals_are still) in
     record {
       realm_stays = stopped.realm_stays;
       left = world-same after (run_to
@@ -125,7 +142,7 @@ pub Stopped-still : {A : Type 0} (before after : DeskState) (script : Script A) 
     → Stopped before after script → IsStill after
 Stopped-still {A} before after script still stopped =
     let first : IsFirst A before.realm (still_of before).world script after.views stopped.turns =
-    halts-still before after.views script stopped.turns still stopped.halted in
+    halts-still before after.views script stopped.turns still stopped.halted (stopped.seals_are still) in
     still-same after (run_to (count_changed (places_of stopped.turns)) before.realm
     (still_of before).world script).journals
     (stopped.gates_stay ∙ ap (λ (s : DeskState). s.gates) still) first.leaves
@@ -142,6 +159,7 @@ Ran-ends seen answer = record {
   visited = (refl, refl);
   placed = refl;
   counted = omega arith;
+  seals_are = λ still. own_seals-none seen.realm (still_of seen).world (ends answer);
   parts_are = λ still. refl;
 }
 
@@ -168,6 +186,21 @@ pub counted-then : (one other last : ℕ) (first second : List Place) → other 
     → last ≡ one + count_changed (first ++ second)
 counted-then one other last first second p q = omega (arith, p, q, count_changed-append first second)
 
+-- what came after was sealed by own parts, as seen from the beginning
+pub seals-then : {A B : Type 0} (before mid : DeskState) (script : Script A) (next : A → Script B) (a : A)
+    (first : List Place) (more : List PlacedTurn) (one : Ran before mid script a first) → IsStill before
+    → AreOwnSeals mid.realm (still_of mid).world (next a) more
+    → AreOwnSeals before.realm (still_of before).world (then_do script next) (one.turns ++ more)
+seals-then before mid script next a first more one still own =
+    let desk : StillState = still_of before in
+    let alone = Ran-runs before mid script a first still one in
+    subst (λ ts. AreOwnSeals desk.realm desk.world (then_do script next) (ts ++ more))
+    (sym (Ran-turns before mid script a first still one))
+    (own_seals-then desk.realm desk.world script next more
+    (subst (λ x. AreOwnSeals desk.realm (run_on desk script).world (next x) more) alone.runs.answered
+    (subst (λ (w : World). AreOwnSeals desk.realm w (next a) more) alone.runs.left
+    (subst (λ (r : Realm). AreOwnSeals r (still_of mid).world (next a) more) alone.runs.realm_stays own))))
+
 -- both scripts ran
 pub Ran-then : {A B : Type 0} (before mid after : DeskState) (script : Script A) (next : A → Script B) (a : A) (b : B)
     (first second : List Place)
@@ -187,6 +220,8 @@ Ran-then before mid after script next a b first second one other =
       placed = ap (λ ps. ps ++ second) one.placed ∙ ap (λ ps. places_of one.turns ++ ps) other.placed
           ∙ sym (places_of-append one.turns other.turns);
       counted = counted-then before.made mid.made after.made first second one.counted other.counted;
+      seals_are = λ still. seals-then before mid script next a first other.turns one still
+          (other.seals_are (Ran-runs before mid script a first still one).still);
       parts_are = λ still.
           let alone = Ran-runs before mid script a first still one in
           other.parts_are alone.still
@@ -224,6 +259,10 @@ Stopped-first before after script next stopped = record {
   turns = stopped.turns;
   halted = halts_first (terms_of before) before.views after.views script next stopped.turns stopped.halted;
   counted = stopped.counted;
+  seals_are = λ still.
+      let first = Stopped-runs_to before after script still stopped in
+      own_seals-first before.realm (still_of before).world script next stopped.turns first.rest first.placed
+      (stopped.seals_are still);
   parts_are = λ still.
       let first = Stopped-runs_to before after script still stopped in
       stopped.parts_are still
@@ -247,6 +286,8 @@ Stopped-then before mid after script next a first one stopped = record {
   counted = counted-then before.made mid.made after.made (places_of one.turns) (places_of stopped.turns)
       (one.counted ∙ ap (λ ps. before.made + count_changed ps) one.placed) stopped.counted
       ∙ ap (λ ps. before.made + count_changed ps) (sym (places_of-append one.turns stopped.turns));
+  seals_are = λ still. seals-then before mid script next a first stopped.turns one still
+      (stopped.seals_are (Ran-runs before mid script a first still one).still);
   parts_are = λ still.
       let desk : StillState = still_of before in
       let alone = Ran-runs before mid script a first still one in
@@ -272,6 +313,7 @@ Stopped-none before after script same = record {
   halted = subst (λ (s : DeskState). Halts (terms_of before) before.views s.views script []) (sym same)
       (halts_here (terms_of before) before.views script);
   counted = omega (arith, ap (λ (s : DeskState). s.made) same);
+  seals_are = λ still. own_seals-none before.realm (still_of before).world script;
   parts_are = λ still. ap (λ (s : DeskState). s.parts) same
       ∙ ap (λ (w : World). w.parts) (sym (run_to-none before.realm (still_of before).world script));
 }
@@ -293,6 +335,7 @@ Stopped-whole before after script a places ran = record {
   turns = ran.turns;
   halted = visits_halt (terms_of before) before.views after.views script ran.turns a ran.visited;
   counted = ran.counted ∙ ap (λ ps. before.made + count_changed ps) ran.placed;
+  seals_are = ran.seals_are;
   parts_are = λ still.
       let desk : StillState = still_of before in
       let alone = Ran-runs before after script a places still ran in

@@ -4,7 +4,7 @@ use Rattle.ecr_model.specs.declared.names.SiteId.{SiteId}
 use Rattle.ecr_model.specs.declared.registry.journal.Place.{Place}
 use Rattle.ecr_model.specs.registry.Scripts.{Realm, Parts, World, Script, Run, count_changed, run, run_to}
 use Rattle.ecr_turn.specs.Passes.{Gate}
-use Rattle.ecr_model.specs.registry.Views.{Views, Terms, PlacedTurn, journals_of, places_of, views_of, Visits, Halts}
+use Rattle.ecr_model.specs.registry.Views.{Views, Terms, PlacedTurn, journals_of, places_of, views_of, Visits, Halts, AreOwnSeals}
 
 -- which desk it is: the turnstile of each served site's directory
 abbrev pub Gates : Type 0
@@ -88,7 +88,8 @@ run_on desk script = run desk.realm desk.world script
 
 -- ---- calls
 
--- all turns of the script were made, and no other: they came to this answer, at these places
+-- all turns of the script were made, and no other: they came to this answer, at these places. A caller that is alone
+-- completes uploads with the digests of its own parts
 pub record Ran {A : Type 0} (before after : DeskState) (script : Script A) (answer : A)
     (places : List Place) : Type 0 where
   pub realm_stays : after.realm ≡ before.realm
@@ -97,6 +98,7 @@ pub record Ran {A : Type 0} (before after : DeskState) (script : Script A) (answ
   pub visited : Visits (terms_of before) before.views after.views script turns answer
   pub placed : places ≡ places_of turns
   pub counted : after.made ≡ before.made + count_changed places
+  pub seals_are : IsStill before → AreOwnSeals before.realm (still_of before).world script turns
   pub parts_are : IsStill before → after.parts ≡ (run_on (still_of before) script).world.parts
 
 -- the first turns of the script were made, and no other
@@ -106,6 +108,7 @@ pub record Stopped {A : Type 0} (before after : DeskState) (script : Script A) :
   pub turns : List PlacedTurn
   pub halted : Halts (terms_of before) before.views after.views script turns
   pub counted : after.made ≡ before.made + count_changed (places_of turns)
+  pub seals_are : IsStill before → AreOwnSeals before.realm (still_of before).world script turns
   pub parts_are : IsStill before
       → after.parts ≡ (run_to (count_changed (places_of turns)) before.realm (still_of before).world script).parts
 

@@ -3,6 +3,9 @@ pub mod Contents
 pub mod Limits
 pub mod Journals
 pub mod Growth
+pub mod Outcomes
+pub mod Parts
+pub mod Layers
 pub mod Steps
 pub mod Directories
 pub mod Scripts

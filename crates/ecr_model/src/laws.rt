@@ -1,6 +1,6 @@
 // The laws of the definitions that contracts cite. The functions do nothing: their contracts are the laws.
 ghost use Rattle.ecr_model.specs.examples.Example.{AChunkedBodyIsRead, AFirstCreationIsAnswered, AFirstRequestIsRead, AFirstSessionIsWritten};
-ghost use Rattle.ecr_model.specs.laws.ScriptLaws.{ACreationIsKept, NotFoundHasItsCause};
+ghost use Rattle.ecr_model.specs.laws.ScriptLaws.{ACreationIsKept, ALayerIsItsParts, NotFoundHasItsCause};
 ghost use Rattle.ecr_model.specs.laws.SessionLaws.{AFixedMomentIsEach, OutputIsDetermined, PlacesAreFresh, SessionsKeepJournalsSound, TheClockTellsTheMoments, TheInputDecidesTheEnd};
 ghost use Rattle.ecr_model.specs.laws.StreamLaws.{ACutChangesNothing, AnEndStays, BytesHaveAReading, RequestsAreDetermined};
 
@@ -8,6 +8,7 @@ pub mod api;
 pub mod callers;
 pub mod crossing;
 pub mod journal;
+pub mod layers;
 pub mod views;
 
 /// The bytes of a stream determine its requests, and how it goes on after them.
@@ -83,6 +84,11 @@ pub fn a_chunked_body_is_read()
 /// A repository whose creation was answered as made has it in its journal once more than before.
 pub fn a_creation_is_kept()
     ensures kept { ACreationIsKept }
+{}
+
+/// The layer of one caller's completed upload has the digest of the parts that were taken for it, joined in order.
+pub fn a_layer_is_its_parts()
+    ensures parts { ALayerIsItsParts }
 {}
 
 /// A call is answered RepositoryNotFound only where the name isn't registered, or the repository is absent, each as at

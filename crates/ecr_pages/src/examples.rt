@@ -9,6 +9,9 @@ use std::sync::ledger::{Blank, Ledger};
 use std::test::Fail;
 
 // A repository of 600 images: image 300 gets a tag and image 1 is removed after the snapshot.
+//
+// pins: births_of, births_in, held, row_at, row_in, Places.rows_in, Places.places_of, shelved, filled, entry_with
+// pins: Places.at
 #[test]
 fn a_snapshot_stays_as_it_was(rt: HostRuntime) -> Result<(), Fail> {
     snapshot_of_600::<Brand>(&rt, rt.alloc(), Blank::new(1))?;

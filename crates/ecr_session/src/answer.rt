@@ -15,7 +15,6 @@ use crate::describe::describe;
 use crate::host::site_for;
 use crate::turns::{Decided, call_at, site_at};
 use ecr_api::{ApiRefusal, Asked, read_call, read_call_in, write_refused, write_reply};
-use ecr_blob_upload::Load;
 use ecr_desk::AnyDesk;
 use ecr_http::{HttpReply, closes, path_of, write_empty};
 use ecr_model::{
@@ -223,8 +222,9 @@ fn run_asked<D: AnyDesk>(
 {
     match asked {
         Asked::Cell { key, call, load } => {
+            let load = load.share()?;
             let call = copy_of(call)?;
-            call_at(alloc, desk, key, call, load_of(load), moment, places)
+            call_at(alloc, desk, key, call, load, moment, places)
         }
         Asked::Site { site, call } => {
             let reply = site_at(alloc, desk, site, *call, places)?;
@@ -256,15 +256,6 @@ fn copy_of(call: &Call) -> Result<Call, Mem>
 {
     let call = call.clone()?;
     Ok(call)
-}
-
-// The content that comes with the call.
-fn load_of(load: &Load) -> Load
-    ensures { result ≡ load.now }
-{
-    match load {
-        Load::Nothing => Load::Nothing,
-    }
 }
 
 // The reply to a call on a site; the names of a site are no action.

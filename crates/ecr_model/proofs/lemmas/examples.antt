@@ -3,3 +3,4 @@ pub mod ChunkExampleLemmas
 pub mod JournalExampleLemmas
 pub mod ApiExampleLemmas
 pub mod ViewExampleLemmas
+pub mod LayerExampleLemmas

@@ -1,3 +1,4 @@
 pub mod NamesLemmas
 pub mod DigestsLemmas
 pub mod SitesLemmas
+pub mod UploadsLemmas

@@ -6,6 +6,7 @@ pub mod ScriptLemmas
 pub mod CellLemmas
 pub mod CreationLemmas
 pub mod CauseLemmas
+pub mod CompletionLemmas
 pub mod SoundnessLemmas
 pub mod ViewLemmas
 pub mod StillViewLemmas

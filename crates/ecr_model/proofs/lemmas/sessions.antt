@@ -3,3 +3,4 @@ pub mod EndLemmas
 pub mod CommandLemmas
 pub mod CallerLemmas
 pub mod AlikeLemmas
+pub mod SealLemmas

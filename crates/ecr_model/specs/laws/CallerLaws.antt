@@ -1,5 +1,5 @@
 -- What holds of the sessions of one caller among many.
-use Rattle.std.specs.Prelude.{map, Option, ◌≡◌, Bool, false, ℕ, List, ◌++◌}
+use Rattle.std.specs.Prelude.{map, Option, ◌≡◌, Bool, false, ℕ, List, [], ◌∷◌, ◌++◌}
 use Rattle.ecr_model.specs.declared.registry.journal.CellKey.{CellKey}
 use Rattle.ecr_model.specs.declared.registry.journal.Entry.{Entry}
 use Rattle.ecr_model.specs.declared.registry.journal.Line.{Line}
@@ -8,9 +8,9 @@ use Rattle.ecr_model.specs.laws.SessionLaws.{AreAlike, all_places, output_of}
 use Rattle.ecr_model.specs.registry.Growth.{Each, Rises}
 use Rattle.ecr_model.specs.registry.Soundness.{AreSound}
 use Rattle.ecr_model.specs.registry.Scripts.{Journals, Script}
-use Rattle.ecr_model.specs.registry.Views.{AreAhead, Halts, PlacedTurn, Terms, View, Views, caller_of, entered_in, journals_of, own_of, past_of, places_of, seen_of}
+use Rattle.ecr_model.specs.registry.Views.{AreAhead, AreOwnSeals, Halts, PlacedTurn, Terms, View, Views, caller_of, entered_in, journals_of, own_of, past_of, places_of, seen_of}
 use Rattle.ecr_model.specs.sessions.Callers.{AreBetween, AreFirstTurns, AreServedAmong}
-use Rattle.ecr_model.specs.sessions.Sessions.{AreServed, Exchange, Standing, StandingOf, account_of, requests_of, sent_to}
+use Rattle.ecr_model.specs.sessions.Sessions.{AreServed, Exchange, Standing, StandingOf, account_of, requests_of, script_of, sent_to}
 
 -- of scripts with answers of one type
 module _ (A : Type 0) where
@@ -76,14 +76,27 @@ pub record IsOwnSince (was now : Option View) : Type 0 where
 abbrev pub NobodyElse : Views → Views → Type 0
 NobodyElse was now = (cell : CellKey) → IsOwnSince (was cell) (now cell)
 
--- over journals that nobody else changes meanwhile, a session among others writes the same as one of a caller that is
--- alone, from journals with the same entries on, and leaves the same entries
+-- the uploads that each exchange's turns completed are sealed as the caller that is alone seals its own parts: so that
+-- of one session among others and one of a caller that is alone, which go on side by side
+abbrev pub SealsAlike : (journals : Journals) (first last : StandingOf Views) (exchanges : List Exchange)
+    → AreServedAmong journals first exchanges last → (begin finish : Standing) (others : List Exchange)
+    → AreServed begin others finish → Type 0
+SealsAlike journals first last [] chain begin finish others other = Unit {0}
+SealsAlike journals first last (e ∷ es) chain begin finish [] other = Unit {0}
+SealsAlike journals first last (e ∷ es) chain begin finish (f ∷ fs) other =
+    AreOwnSeals begin.realm begin.world (script_of begin.realm e.moment e.request) chain.1.turns
+    × SealsAlike journals chain.0 last es chain.2 other.0 finish fs other.2
+
+-- over journals that nobody else changes meanwhile, a session among others whose completed uploads are sealed by its own
+-- parts writes the same as one of a caller that is alone, from journals with the same entries on, and leaves the same
+-- entries
 abbrev pub OutputIsStill : Type 0
 OutputIsStill =
     (first last : StandingOf Views) (begin finish : Standing) (exchanges others : List Exchange)
-    → AreServedAmong (journals_of last.world) first exchanges last → HasPassed first.world
+    → (served : AreServedAmong (journals_of last.world) first exchanges last) → HasPassed first.world
     → NobodyElse first.world last.world
-    → AreServed begin others finish → AreSound begin.realm begin.world.journals
+    → (other : AreServed begin others finish) → AreSound begin.realm begin.world.journals
+    → SealsAlike (journals_of last.world) first last exchanges served begin finish others other
     → first.realm ≡ begin.realm → AreAlikeIn (journals_of first.world) begin.world.journals
     → requests_of exchanges ≡ requests_of others → AreAlike exchanges others
     → (sent_to exchanges ≡ sent_to others) × AreAlikeIn (journals_of last.world) finish.world.journals

@@ -1,15 +1,16 @@
 -- What holds of scripts, whatever they do.
-use Rattle.std.specs.Prelude.{◌≡◌, ◌⊎◌, ℕ, ◌+◌, false, List, [], ◌∷◌, ◌++◌, Option, None}
+use Rattle.std.specs.Prelude.{◌≡◌, ◌⊎◌, ℕ, ◌+◌, Bool, false, List, [], ◌∷◌, ◌++◌, Option, None}
 use Rattle.ecr_model.specs.declared.requests.call.Call.{Call}
-use Rattle.ecr_model.specs.declared.requests.call.Call.TheVariants.{Create}
+use Rattle.ecr_model.specs.declared.requests.call.Call.TheVariants.{Create, Complete}
 use Rattle.ecr_model.specs.declared.registry.journal.CellKey.TheVariants.{Directory, Repository}
+use Rattle.ecr_model.specs.declared.names.Digest.{Digest}
 use Rattle.ecr_model.specs.declared.names.RepoKey.{RepoKey}
 use Rattle.ecr_model.specs.declared.requests.refusal.Refusal.TheVariants.{RepositoryNotFound}
-use Rattle.ecr_model.specs.declared.requests.reply.Reply.TheVariants.{Created, Refused}
+use Rattle.ecr_model.specs.declared.requests.reply.Reply.TheVariants.{Created, Completed, Refused}
 use Rattle.ecr_model.specs.declared.registry.repository.Mutability.{Mutability}
 use Rattle.ecr_model.specs.registry.Directories.{directory_at, is_registered}
 use Rattle.ecr_model.specs.requests.Requests.{beside_of, call_script}
-use Rattle.ecr_model.specs.registry.Scripts.{Script, then_do, Realm, World, frame_of, next_ticket, run}
+use Rattle.ecr_model.specs.registry.Scripts.{Script, then_do, Realm, World, digest_of_parts, frame_of, next_ticket, run}
 use Rattle.ecr_model.specs.registry.Steps.{line_of, repository_at, turn_of}
 
 -- the run of a script and then another is the one run and then the other
@@ -33,6 +34,15 @@ ACreationIsKept = (realm : Realm) (world : World) (key : RepoKey) (mutability sh
     → (run realm world (call_script key (Create mutability) given moment)).world.journals (Repository key)
     ≡ world.journals (Repository key)
     ++ line_of 0 (turn_of (next_ticket world (Repository key)) None (beside_of given moment)) (Create mutability) ∷ []
+
+-- whatever the journals are: where the completion of an upload is answered as made, the layer's digest is that of the
+-- parts of the upload, joined in order
+abbrev pub ALayerIsItsParts : Type 0
+ALayerIsItsParts = (realm : Realm) (world : World) (key : RepoKey) (upload shown : ℕ) (digests : List Digest)
+    (docker : Bool) (given : Option (List ℕ)) (moment : ℕ) (digest : Digest)
+    → (run realm world (call_script key (Complete upload digests docker) given moment)).answer.reply
+    ≡ Completed shown digest
+    → digest ≡ digest_of_parts (world.parts key upload)
 
 -- whatever the journals are: a call is answered that there is no such repository only where the name isn't registered
 -- in the site's directory as at its ticket there, or the repository is absent as at its ticket

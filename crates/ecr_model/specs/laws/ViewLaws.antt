@@ -5,7 +5,7 @@ use Rattle.ecr_model.specs.declared.registry.journal.Place.{Place}
 use Rattle.ecr_model.specs.declared.names.Digest.{Digest}
 use Rattle.ecr_model.specs.registry.Scripts.{Ask, Script, then_do, Realm, World, turn_at, count_changed, run, run_to}
 use Rattle.ecr_model.specs.registry.Soundness.{AreSound}
-use Rattle.ecr_model.specs.registry.Views.{View, Views, seen_of, past_of, caller_of, journals_of, Terms, PlacedTurn, places_of, Visits, Halts, IsAhead, AreAhead, answer_at, entered_in, own_of, alone_in, views_of, unsealed}
+use Rattle.ecr_model.specs.registry.Views.{View, Views, seen_of, past_of, caller_of, journals_of, Terms, PlacedTurn, places_of, Visits, Halts, IsAhead, AreAhead, answer_at, entered_in, own_of, alone_in, views_of, turns_of, AreOwnSeals}
 
 -- a turn at a ticket up to `past` comes to the same over each journal that is seen later
 abbrev pub WhatWasSeenStays : Type 0
@@ -49,19 +49,21 @@ module _ (A : Type 0) where
   abbrev pub RunsVisit : Type 0
   RunsVisit = (realm : Realm) (world : World) (script : Script A) → AreSound realm world.journals
       → Visits (alone_in realm) (views_of world.journals) (views_of (run realm world script).world.journals) script
-      (unsealed (run realm world script).places) (run realm world script).answer
+      (turns_of realm world script) (run realm world script).answer
 
   -- the views, the turns and the answer are those of the run
   pub record IsRun (realm : Realm) (world : World) (script : Script A) (now : Views) (made : List PlacedTurn)
       (answer : A) : Type 0 where
     pub leaves : now ≡ views_of (run realm world script).world.journals
+    pub turns_are : made ≡ turns_of realm world script
     pub places_are : places_of made ≡ (run realm world script).places
     pub answer_is : answer ≡ (run realm world script).answer
 
-  -- a caller that is alone and sees whole journals makes the turns of the run, and sees what the run leaves
+  -- a caller that is alone, sees whole journals and seals its own parts makes the turns of the run, and sees what the
+  -- run leaves
   abbrev pub VisitsRun : Type 0
   VisitsRun = (realm : Realm) (world : World) (now : Views) (script : Script A) (made : List PlacedTurn) (answer : A)
-      → Visits (alone_in realm) (views_of world.journals) now script made answer
+      → Visits (alone_in realm) (views_of world.journals) now script made answer → AreOwnSeals realm world script made
       → IsRun realm world script now made answer
 
   -- the turns are the first of the run, and the views those of the run up to their entries
@@ -71,16 +73,17 @@ module _ (A : Type 0) where
     pub rest : List Place
     pub places_are : (run realm world script).places ≡ places_of made ++ rest
 
-  -- a caller that is alone, sees whole journals and makes the first turns makes those of the run
+  -- a caller that is alone, sees whole journals, seals its own parts and makes the first turns makes those of the run
   abbrev pub HaltsRunTo : Type 0
   HaltsRunTo = (realm : Realm) (world : World) (now : Views) (script : Script A) (made : List PlacedTurn)
-      → Halts (alone_in realm) (views_of world.journals) now script made → IsFirst realm world script now made
+      → Halts (alone_in realm) (views_of world.journals) now script made → AreOwnSeals realm world script made
+      → IsFirst realm world script now made
 
   -- a run up to so many of its entries makes the first turns of the script, with so many entries
   abbrev pub RunsToHalt : Type 0
   RunsToHalt = (n : ℕ) (realm : Realm) (world : World) (script : Script A) → AreSound realm world.journals
       → n ≤ (run realm world script).entries
-      → (made : List PlacedTurn) × (count_changed (places_of made) ≡ n)
+      → (made : List PlacedTurn) × (count_changed (places_of made) ≡ n) × AreOwnSeals realm world script made
       × Halts (alone_in realm) (views_of world.journals) (views_of (run_to n realm world script).journals) script made
 
 -- of one script and then another

@@ -1,5 +1,6 @@
--- Sites, written as words of a command (of this registry), and a repository's ARN and URI at its site (Amazon
--- ECR API Reference, `Repository`, `repositoryArn` and `repositoryUri`). Lengths are in bytes.
+-- Sites, written as words of a command (of this registry), a repository's ARN and URI at its site (Amazon ECR API
+-- Reference, `Repository`, `repositoryArn` and `repositoryUri`), and where its layers are downloaded (OCI Distribution
+-- 1.1, "Pulling blobs"). Lengths are in bytes.
 use Rattle.std.specs.Prelude.{◌≡◌, ◌≤◌, ℕ, ◌-◌, Bool, ◌&&◌, ◌||◌, List, [], ◌∷◌, ◌++◌, Option, Some, None, length, take, drop, nat_le, slice_index, ◌==◌, if◌then◌else◌, IsTrue, codes}
 use Rattle.std.specs.Cmp.Lexicographic.{slice_cmp}
 use Rattle.std.specs.List.{list_all}
@@ -8,6 +9,8 @@ use Rattle.std.specs.declared.cmp.Ordering.{Ordering}
 use Rattle.std.specs.Str.Lossy.{utf8_valid_len}
 use Rattle.ecr_model.specs.declared.names.SiteId.{SiteId}
 use Rattle.ecr_model.specs.declared.names.RepoKey.{RepoKey}
+use Rattle.ecr_model.specs.declared.names.Digest.{Digest}
+use Rattle.ecr_model.specs.names.Digests.{digest_text}
 use Rattle.ecr_model.specs.names.Names.{is_alphanumeric}
 
 -- `[0-9]`
@@ -86,3 +89,9 @@ arn_of key = utf8_or_empty
 unfoldable pub uri_of : RepoKey → List ℕ
 uri_of key = utf8_or_empty
     (key.site.account ++ codes ".dkr.ecr." ++ key.site.region ++ codes ".amazonaws.com/" ++ key.name.text)
+
+-- `http://ACCOUNT.dkr.ecr.REGION.amazonaws.com/v2/NAME/blobs/DIGEST`
+unfoldable pub download_url : RepoKey → Digest → List ℕ
+download_url key digest = utf8_or_empty
+    (codes "http://" ++ key.site.account ++ codes ".dkr.ecr." ++ key.site.region ++ codes ".amazonaws.com/v2/"
+    ++ key.name.text ++ codes "/blobs/" ++ digest_text digest)

@@ -1,8 +1,9 @@
 -- Scripts: the turns of a request in its cells, one after another, each of which tells something, and then an answer.
 -- Of this registry: docs/DECISIONS.md, "Scripts". Tickets count from 0; moments are in seconds.
-use Rattle.std.specs.Prelude.{ℕ, zero, suc, ◌+◌, ◌-◌, Bool, false, List, [], ◌∷◌, ◌++◌, Option, None, Some, is_some, if◌then◌else◌, ◌&&◌, ◌==◌, bytes_eq, option_map}
-use Rattle.std.specs.List.{list_any}
+use Rattle.std.specs.Prelude.{ℕ, zero, suc, ◌+◌, ◌-◌, Bool, false, List, [], ◌∷◌, ◌++◌, Option, None, Some, is_some, if◌then◌else◌, ◌&&◌, ◌==◌, bytes_eq, option_map, unwrap_or}
+use Rattle.std.specs.List.{concat}
 use Rattle.ecr_model.specs.declared.requests.call.Call.{Call}
+use Rattle.ecr_model.specs.declared.requests.call.Call.TheVariants.{UploadPart, Complete}
 use Rattle.ecr_model.specs.declared.requests.call.SiteCall.{SiteCall}
 use Rattle.ecr_model.specs.declared.registry.directory.Directory.{Directory}
 use Rattle.ecr_model.specs.declared.registry.directory.Registered.{Registered}
@@ -25,7 +26,10 @@ use Rattle.ecr_model.specs.registry.Directories as directories
 use Rattle.ecr_model.specs.registry.Directories.{SiteFrame, SiteOutcome}
 use Rattle.ecr_model.specs.registry.Journals.{past}
 use Rattle.ecr_model.specs.registry.Steps as steps
-use Rattle.ecr_model.specs.registry.Steps.{Beside, Turn, Outcome, turn_of, entry_of}
+use Rattle.ecr_model.specs.registry.Content.{content_digest}
+use Rattle.ecr_model.specs.registry.Layers.{is_uploading}
+use Rattle.ecr_model.specs.registry.Outcomes.{Outcome}
+use Rattle.ecr_model.specs.registry.Steps.{Beside, Turn, turn_of, entry_of}
 
 -- a question to a cell. To a directory: whether a name is registered, that it be registered, or a call on it; to a
 -- repository: a call on it
@@ -65,24 +69,28 @@ pub record Realm : Type 0 where
 abbrev pub frame_of : Realm → SiteId → SiteFrame
 frame_of realm site = record { site = site; served = realm.served; limits = realm.limits }
 
--- the result of a turn: its answer, and the entry that it adds
+-- the result of a turn: its answer, the entry that it adds, and whether it is decided with the digest of all parts of an
+-- upload
 pub record Turned : Type 0 where
   pub told : Told
   pub entry : Option Entry
+  pub seals : Bool
 
 -- a turn that adds no entry
 abbrev pub tells : Told → Turned
-tells told = record { told = told; entry = None }
+tells told = record { told = told; entry = None; seals = false }
 
 -- a name that is registered from now on has its entry
 abbrev pub registers : Name → Registered → Turned
-registers name New = record { told = registered New; entry = Some (directories.act_entry (Register name)) }
+registers name New =
+    record { told = registered New; entry = Some (directories.act_entry (Register name)); seals = false }
 registers name Known = tells (registered Known)
 registers name (Full limit count) = tells (registered (Full limit count))
 
 -- a call that changes the directory has its act entered
 abbrev pub acts : SiteOutcome → Turned
-acts outcome = record { told = listed outcome.reply; entry = option_map directories.act_entry outcome.act }
+acts outcome =
+    record { told = listed outcome.reply; entry = option_map directories.act_entry outcome.act; seals = false }
 
 -- a turn in a directory
 abbrev pub directory_turn : SiteFrame → Directory → Ask → Turned
@@ -92,10 +100,11 @@ directory_turn frame d (site_call c) = acts (directories.site_step frame d c)
 directory_turn frame d (call beside c) = tells nothing
 
 -- a call that changes the repository has its entry
-abbrev pub replies : Turn → Call → Outcome → Turned
-replies at c outcome = record {
+abbrev pub replies : Turn → Call → kept.Repository → Outcome → Turned
+replies at c s outcome = record {
   told = replied outcome.reply at.sealed;
-  entry = option_map (λ s. entry_of at c) outcome.after;
+  entry = option_map (λ after. entry_of at c) outcome.after;
+  seals = steps.takes_digest s c;
 }
 
 -- a turn in the repository of that key, with that journal
@@ -105,7 +114,8 @@ repository_turn key limits lines ticket sealed (register name) = tells nothing
 repository_turn key limits lines ticket sealed (site_call c) = tells nothing
 repository_turn key limits lines ticket sealed (call beside c) =
     let at : Turn = turn_of ticket sealed beside in
-    replies at c (steps.step key limits (steps.repository_at key limits lines ticket) at c)
+    let s : kept.Repository = steps.repository_at key limits lines ticket in
+    replies at c s (steps.step key limits s at c)
 
 -- a turn at a ticket of a cell's journal, in which an upload with that digest is completed
 unfoldable pub turn_at : Realm → CellKey → List Line → ℕ → Option Digest → Ask → Turned
@@ -160,19 +170,22 @@ fresh = record { journals = λ cell. []; parts = λ key number. [] }
 unfoldable pub with_lines : Journals → CellKey → List Line → Journals
 with_lines journals cell lines = λ k. if same_cell cell k then lines else journals k
 
--- whether the upload of that number is in progress
-abbrev pub is_uploading : ℕ → kept.Repository → Bool
-is_uploading number s = list_any (λ upload. upload.number == number) s.uploads
+-- the parts of a repository's uploads with the bytes that the question's call adds to one, where it adds a part
+abbrev pub parts_with : Ask → (ℕ → List (List ℕ)) → ℕ → List (List ℕ)
+parts_with (call beside (UploadPart upload first last size docker)) parts number =
+    if number == upload then parts number ++ unwrap_or beside.given [] ∷ [] else parts number
+parts_with _ parts number = parts number
 
 -- the parts of a repository's uploads after a change: an upload that isn't in progress has none
 abbrev pub parts_left : kept.Repository → (ℕ → List (List ℕ)) → ℕ → List (List ℕ)
 parts_left s parts number = if is_uploading number s then parts number else []
 
--- the parts after a change in a cell that led to that journal
-unfoldable pub parts_after : Limits → CellKey → List Line → Parts → Parts
-parts_after limits (cells.Directory site) lines parts = parts
-parts_after limits (cells.Repository key) lines parts =
-    λ k. if same_key key k then parts_left (steps.replayed_repository key limits lines) (parts k) else parts k
+-- the parts after the question changed a cell, which led to that journal
+unfoldable pub parts_after : Limits → CellKey → Ask → List Line → Parts → Parts
+parts_after limits (cells.Directory site) ask lines parts = parts
+parts_after limits (cells.Repository key) ask lines parts = λ k. if same_key key k
+    then parts_left (steps.replayed_repository key limits lines) (parts_with ask (parts k))
+    else parts k
 
 -- the number of entries
 abbrev pub entry_count : Option Entry → ℕ
@@ -186,26 +199,39 @@ count_changed (place ∷ places) = (if place.changed then 1 else 0) + count_chan
 
 -- ---- runs of one caller, whose turns follow one another
 
--- the digest of all parts of the upload that the question completes; these calls complete none
-abbrev pub sealed_in : Parts → CellKey → Ask → Option Digest
-sealed_in parts cell ask = None
-
 -- the next ticket of a cell: one more than its last
 abbrev pub next_ticket : World → CellKey → ℕ
 next_ticket world cell = past (world.journals cell)
 
+-- the digest of these parts joined in their order
+abbrev pub digest_of_parts : List (List ℕ) → Digest
+digest_of_parts parts = content_digest (concat parts)
+
+-- the digest of all parts of the upload that a call of the next turn completes, where it is in progress
+abbrev pub sealed_by : kept.Repository → (ℕ → List (List ℕ)) → Call → Option Digest
+sealed_by s parts (Complete upload digests docker) =
+    if is_uploading upload s then Some (digest_of_parts (parts upload)) else None
+sealed_by s parts _ = None
+
+-- that of the upload that the question completes in its cell's next turn; a directory's turn completes none
+unfoldable pub sealed_in : Realm → World → CellKey → Ask → Option Digest
+sealed_in realm world (cells.Repository key) (call beside c) =
+    sealed_by (steps.repository_at key realm.limits (world.journals (cells.Repository key))
+    (next_ticket world (cells.Repository key))) (world.parts key) c
+sealed_in realm world _ _ = None
+
 -- one caller's next turn in a cell
 abbrev pub next_turn : Realm → World → CellKey → Ask → Turned
 next_turn realm world cell ask =
-    turn_at realm cell (world.journals cell) (next_ticket world cell) (sealed_in world.parts cell ask) ask
+    turn_at realm cell (world.journals cell) (next_ticket world cell) (sealed_in realm world cell ask) ask
 
 -- the world after its entry; the caller is 0
-unfoldable pub entered : Realm → World → CellKey → Option Entry → World
-entered realm world cell None = world
-entered realm world cell (Some entry) =
+unfoldable pub entered : Realm → World → CellKey → Ask → Option Entry → World
+entered realm world cell ask None = world
+entered realm world cell ask (Some entry) =
     let lines = lines_after 0 (next_ticket world cell) (world.journals cell) (Some entry) in record {
       journals = with_lines world.journals cell lines;
-      parts = parts_after realm.limits cell lines world.parts;
+      parts = parts_after realm.limits cell ask lines world.parts;
     }
 
 -- the result of a run
@@ -225,7 +251,7 @@ run realm world (ends a) = record { world = world; places = []; entries = 0; ans
 run realm world (turn cell ask next) =
     let turned = next_turn realm world cell ask in
     in_front (place_of cell (next_ticket world cell) turned) (entry_count turned.entry)
-    (run realm (entered realm world cell turned.entry) (next turned.told))
+    (run realm (entered realm world cell ask turned.entry) (next turned.told))
 
 -- the world after the turns of a script, up to so many entries
 unfoldable pub run_to : {A : Type 0} → ℕ → Realm → World → Script A → World
@@ -233,4 +259,4 @@ run_to n realm world (ends a) = world
 run_to zero realm world (turn cell ask next) = world
 run_to (suc n) realm world (turn cell ask next) =
     let turned = next_turn realm world cell ask in
-    run_to (suc n - entry_count turned.entry) realm (entered realm world cell turned.entry) (next turned.told)
+    run_to (suc n - entry_count turned.entry) realm (entered realm world cell ask turned.entry) (next turned.told)

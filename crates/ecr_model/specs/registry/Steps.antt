@@ -1,9 +1,8 @@
 -- How a call on a repository is decided, and how it changes it (Amazon ECR API Reference, the actions). Moments are in
 -- seconds.
 use Rattle.std.specs.Prelude.{ℕ, ◌+◌, Bool, true, false, not, ◌&&◌, List, [], ◌∷◌, Option, None, Some, is_some, if◌then◌else◌}
-use Rattle.std.specs.Option.{option_map_or}
 use Rattle.ecr_model.specs.declared.requests.call.Call.{Call}
-use Rattle.ecr_model.specs.declared.requests.call.Call.TheVariants.{Create, Delete, Describe, SetMutability}
+use Rattle.ecr_model.specs.declared.requests.call.Call.TheVariants.{Create, Delete, Describe, SetMutability, Initiate, UploadPart, Complete, UploadState, CheckLayers, Layer}
 use Rattle.ecr_model.specs.declared.registry.images.Row.{Row}
 use Rattle.ecr_model.specs.declared.registry.journal.Act.{Act}
 use Rattle.ecr_model.specs.declared.registry.journal.Act.TheVariants.{Called, Register}
@@ -14,32 +13,15 @@ use Rattle.ecr_model.specs.declared.registry.lifecycle.Policy.{Policy}
 use Rattle.ecr_model.specs.declared.names.Digest.{Digest}
 use Rattle.ecr_model.specs.declared.names.RepoKey.{RepoKey}
 use Rattle.ecr_model.specs.declared.names.SiteId.{SiteId}
-use Rattle.ecr_model.specs.declared.requests.refusal.Refusal.{Refusal}
-use Rattle.ecr_model.specs.declared.requests.refusal.Refusal.TheVariants.{RepositoryAlreadyExists, RepositoryNotFound, RepositoryNotEmpty}
+use Rattle.ecr_model.specs.declared.requests.refusal.Refusal.TheVariants.{RepositoryAlreadyExists, RepositoryNotEmpty}
 use Rattle.ecr_model.specs.declared.requests.reply.Reply.{Reply}
-use Rattle.ecr_model.specs.declared.requests.reply.Reply.TheVariants.{Created, Deleted, Described, MutabilitySet, Refused}
+use Rattle.ecr_model.specs.declared.requests.reply.Reply.TheVariants.{Created, Deleted, Described, MutabilitySet}
 use Rattle.ecr_model.specs.declared.registry.repository.Mutability.{Mutability}
 use Rattle.ecr_model.specs.declared.registry.repository.Mutability.TheVariants.{Mutable, Immutable}
-use Rattle.ecr_model.specs.declared.registry.repository.Presence.{Presence}
 use Rattle.ecr_model.specs.declared.registry.repository.Repository.{Repository}
 use Rattle.ecr_model.specs.registry.Journals as journals
-
--- the outcome of a call: the repository afterwards, where the call changes it, and the reply
-pub record Outcome : Type 0 where
-  pub after : Option Repository
-  pub reply : Reply
-
--- nothing changes
-abbrev pub answers : Reply → Outcome
-answers reply = record { after = None; reply = reply }
-
--- nothing changes, for that cause
-abbrev pub refuses : Refusal → Outcome
-refuses refusal = answers (Refused refusal)
-
--- the repository is this from now on
-abbrev pub becomes : Repository → Reply → Outcome
-becomes after reply = record { after = Some after; reply = reply }
+use Rattle.ecr_model.specs.registry.Layers as layers
+pub use Rattle.ecr_model.specs.registry.Outcomes.{Outcome, answers, refuses, becomes, where_present}
 
 -- the first state of a name: absent, and no birth or upload number was used
 unfoldable pub first_state : Repository
@@ -58,10 +40,6 @@ first_state = record {
   next_upload = 1;
   last_pushed = 0;
 }
-
--- the decision for a repository that is present; for an absent one the call is refused
-abbrev pub where_present : Repository → (Presence → Outcome) → Outcome
-where_present s decide = option_map_or decide s.present (refuses RepositoryNotFound)
 
 -- CreateRepository
 abbrev pub creates : ℕ → Mutability → Repository → Outcome
@@ -147,6 +125,18 @@ step key limits s turn (Create mutability) = creates turn.moment mutability s
 step key limits s turn (Delete force) = deletes force s
 step key limits s turn Describe = describes key s
 step key limits s turn (SetMutability mutability) = sets_mutability mutability s
+step key limits s turn (Initiate docker) = layers.initiates turn.moment docker s
+step key limits s turn (UploadPart upload first last size docker) =
+    layers.takes_part limits upload first last size docker s
+step key limits s turn (Complete upload digests docker) = layers.completes turn.moment turn.sealed upload digests s
+step key limits s turn (UploadState upload) = layers.shows_upload upload s
+step key limits s turn (CheckLayers asked) = layers.checks asked s
+step key limits s turn (Layer digest) = layers.shows_layer digest s
+
+-- whether the call is decided with the digest of all parts of an upload: a completion of one that is in progress is
+abbrev pub takes_digest : Repository → Call → Bool
+takes_digest s (Complete upload digests docker) = layers.is_uploading upload s
+takes_digest s _ = false
 
 -- the repository after an act with that ticket and moment, where the act changes it; those of a directory don't
 abbrev pub after_act : RepoKey → Limits → Repository → ℕ → ℕ → Act → Option Repository

@@ -8,7 +8,7 @@ use Rattle.ecr_model.specs.declared.registry.journal.Place.{Place}
 use Rattle.ecr_model.specs.declared.names.Digest.{Digest}
 use Rattle.ecr_model.specs.registry.Growth.{Each, Rises, Follows}
 use Rattle.ecr_model.specs.registry.Journals.{past}
-use Rattle.ecr_model.specs.registry.Scripts.{Ask, Script, ends, turn, Realm, Turned, Journals, turn_at, same_cell}
+use Rattle.ecr_model.specs.registry.Scripts.{Ask, Script, ends, turn, Realm, World, Turned, Journals, turn_at, same_cell, place_of, next_ticket, next_turn, sealed_in, entered}
 
 -- a caller's view of a cell: its number there, the least ticket that its next turn there may have, and the journal that
 -- it has seen
@@ -56,7 +56,7 @@ pub record Terms : Type 0 where
 abbrev pub among : Realm → Terms
 among realm = record { realm = realm; alone = false }
 
--- a turn that was made: its place, and the digest of all parts of the upload that it completed
+-- a turn that was made: its place, and the digest of all parts of the upload with which it was decided
 pub record PlacedTurn : Type 0 where
   pub place : Place
   pub sealed : Option Digest
@@ -65,13 +65,13 @@ pub record PlacedTurn : Type 0 where
 abbrev pub places_of : List PlacedTurn → List Place
 places_of made = map (λ m. m.place) made
 
--- the digest may be that of the upload that the question completes; these questions complete none
-abbrev pub MaySeal : Ask → Option Digest → Type 0
-MaySeal ask sealed = sealed ≡ None
-
 -- the result of a turn that was made, over that journal
 abbrev pub result_of : Realm → CellKey → List Line → Ask → PlacedTurn → Turned
 result_of realm cell lines ask made = turn_at realm cell lines made.place.ticket made.sealed ask
+
+-- a digest is there exactly where the turn was decided with one
+abbrev pub IsSealedAs : Turned → Option Digest → Type 0
+IsSealedAs turned sealed = is_some sealed ≡ turned.seals
 
 -- the line that a turn enters, or none
 abbrev pub lines_of : ℕ → ℕ → Option Entry → List Line
@@ -106,7 +106,7 @@ pub record Visit (terms : Terms) (was : Option View) (now : View) (cell : CellKe
     (made : PlacedTurn) : Type 0 where
   pub cell_is : made.place.cell ≡ cell
   pub changed_is : made.place.changed ≡ is_some (result_of terms.realm cell now.seen ask made).entry
-  pub sealed_is : MaySeal ask made.sealed
+  pub sealed_is : IsSealedAs (result_of terms.realm cell now.seen ask made) made.sealed
   pub fresh : past_of was ≤ made.place.ticket
   pub within : made.place.ticket ≤ now.past
   pub comes : ExtendsView was now
@@ -188,6 +188,25 @@ whole lines = record { caller = 0; past = past lines; seen = lines }
 abbrev pub views_of : Journals → Views
 views_of journals = λ cell. Some (whole (journals cell))
 
--- turns at these places in which no upload was completed
-abbrev pub unsealed : List Place → List PlacedTurn
-unsealed places = map (λ place. record { place = place; sealed = None }) places
+-- the next turn of a run, as a turn that was made
+abbrev pub made_next : Realm → World → CellKey → Ask → PlacedTurn
+made_next realm world cell ask = record {
+  place = place_of cell (next_ticket world cell) (next_turn realm world cell ask);
+  sealed = sealed_in realm world cell ask;
+}
+
+-- the turns of a run
+unfoldable pub turns_of : {A : Type 0} → Realm → World → Script A → List PlacedTurn
+turns_of realm world (ends a) = []
+turns_of realm world (turn cell ask next) =
+    let turned = next_turn realm world cell ask in
+    made_next realm world cell ask ∷ turns_of realm (entered realm world cell ask turned.entry) (next turned.told)
+
+-- the first turns of a script were decided with the digests of the caller's own parts, as those of a run are
+unfoldable pub AreOwnSeals : {A : Type 0} → Realm → World → Script A → List PlacedTurn → Type 0
+AreOwnSeals realm world (ends a) made = Unit {0}
+AreOwnSeals realm world (turn cell ask next) [] = Unit {0}
+AreOwnSeals realm world (turn cell ask next) (m ∷ ms) =
+    let turned = next_turn realm world cell ask in
+    (m.sealed ≡ sealed_in realm world cell ask)
+    × AreOwnSeals realm (entered realm world cell ask turned.entry) (next turned.told) ms

@@ -1,28 +1,32 @@
 -- The actions: the members of their bodies, and what a request asks for (Amazon ECR API Reference, "Actions"). The
 -- refusals have one order: first an unknown action, then a wrong JSON type, then the first member that is bad.
-use Rattle.std.specs.Prelude.{ℕ, Bool, true, false, List, [], ◌∷◌, ◌++◌, map, Option, None, Some, codes, bytes_eq, unwrap_or, option_map, option_and_then, find}
+use Rattle.std.specs.Prelude.{ℕ, Bool, true, false, List, [], ◌∷◌, ◌++◌, length, map, Option, None, Some, codes, bytes_eq, unwrap_or, option_map, option_and_then, find}
+use Rattle.std.specs.List.{filter_map}
 use Rattle.std.specs.Option.{option_map_or}
 use Rattle.serde_json.specs.Data.{Data}
 use Rattle.ecr_model.specs.declared.requests.action.Action.{Action}
-use Rattle.ecr_model.specs.declared.requests.action.Action.TheVariants.{CreateRepository, DeleteRepository, DescribeRepositories, PutImageTagMutability}
+use Rattle.ecr_model.specs.declared.requests.action.Action.TheVariants.{CreateRepository, DeleteRepository, DescribeRepositories, PutImageTagMutability, InitiateLayerUpload, UploadLayerPart, CompleteLayerUpload, BatchCheckLayerAvailability, GetDownloadUrlForLayer}
 use Rattle.ecr_model.specs.declared.requests.action.Domain.{Domain}
 use Rattle.ecr_model.specs.declared.requests.action.Domain.TheVariants as domains
 use Rattle.ecr_model.specs.declared.requests.action.Member.{Member}
 use Rattle.ecr_model.specs.declared.requests.call.Call.{Call}
-use Rattle.ecr_model.specs.declared.requests.call.Call.TheVariants.{Create, Delete, SetMutability}
+use Rattle.ecr_model.specs.declared.requests.call.Call.TheVariants.{Create, Delete, SetMutability, Initiate, UploadPart, Complete, CheckLayers, Layer}
 use Rattle.ecr_model.specs.declared.requests.call.Page.{Page}
 use Rattle.ecr_model.specs.declared.requests.call.SiteCall.{SiteCall}
+use Rattle.ecr_model.specs.declared.names.Digest.{Digest}
 use Rattle.ecr_model.specs.declared.names.Name.{Name}
 use Rattle.ecr_model.specs.declared.names.RepoKey.{RepoKey}
 use Rattle.ecr_model.specs.declared.names.SiteId.{SiteId}
 use Rattle.ecr_model.specs.declared.requests.refusal.Parameter.{Parameter}
-use Rattle.ecr_model.specs.declared.requests.refusal.Parameter.TheVariants.{RegistryId, RepositoryName, ImageTagMutability, Force, RepositoryNames, MaxResults, NextToken}
+use Rattle.ecr_model.specs.declared.requests.refusal.Parameter.TheVariants.{RegistryId, RepositoryName, ImageTagMutability, Force, RepositoryNames, MaxResults, NextToken, UploadId, PartFirstByte, PartLastByte, LayerPartBlob, LayerDigests, LayerDigest}
 use Rattle.ecr_model.specs.declared.requests.refusal.Refusal.{Refusal}
 use Rattle.ecr_model.specs.declared.requests.refusal.Refusal.TheVariants.{InvalidParameter, UnknownOperation, Serialization}
 use Rattle.ecr_model.specs.declared.registry.repository.Mutability.{Mutability}
 use Rattle.ecr_model.specs.declared.registry.repository.Mutability.TheVariants.{Mutable}
 use Rattle.ecr_model.specs.documents.Documents.{document}
-use Rattle.ecr_model.specs.requests.Members.{Valued, value_at, text_in, whole_in, truth_in, texts_in, token_place, rows_of, mutability_of, site_of_account, typed_members, first_bad}
+use Rattle.ecr_model.specs.names.Digests.{digest_of}
+use Rattle.ecr_model.specs.names.Uploads.{upload_number}
+use Rattle.ecr_model.specs.requests.Members.{Valued, value_at, text_in, whole_in, truth_in, texts_in, bytes_in, position_of, token_place, rows_of, mutability_of, site_of_account, typed_members, first_bad}
 
 -- the text before an action's name in X-Amz-Target
 abbrev pub service : List ℕ
@@ -34,10 +38,17 @@ action_name CreateRepository = codes "CreateRepository"
 action_name DeleteRepository = codes "DeleteRepository"
 action_name DescribeRepositories = codes "DescribeRepositories"
 action_name PutImageTagMutability = codes "PutImageTagMutability"
+action_name InitiateLayerUpload = codes "InitiateLayerUpload"
+action_name UploadLayerPart = codes "UploadLayerPart"
+action_name CompleteLayerUpload = codes "CompleteLayerUpload"
+action_name BatchCheckLayerAvailability = codes "BatchCheckLayerAvailability"
+action_name GetDownloadUrlForLayer = codes "GetDownloadUrlForLayer"
 
 -- the actions that are served
 abbrev pub all_actions : List Action
-all_actions = CreateRepository ∷ DeleteRepository ∷ DescribeRepositories ∷ PutImageTagMutability ∷ []
+all_actions =
+    CreateRepository ∷ DeleteRepository ∷ DescribeRepositories ∷ PutImageTagMutability ∷ InitiateLayerUpload
+    ∷ UploadLayerPart ∷ CompleteLayerUpload ∷ BatchCheckLayerAvailability ∷ GetDownloadUrlForLayer ∷ []
 
 -- the action that a target names
 unfoldable pub action_of : List ℕ → Option Action
@@ -70,6 +81,19 @@ members_of DescribeRepositories =
 members_of PutImageTagMutability =
     may RegistryId domains.Account ∷ must RepositoryName domains.RepositoryName
     ∷ must ImageTagMutability domains.Mutability ∷ []
+members_of InitiateLayerUpload = may RegistryId domains.Account ∷ must RepositoryName domains.RepositoryName ∷ []
+members_of UploadLayerPart =
+    may RegistryId domains.Account ∷ must RepositoryName domains.RepositoryName ∷ must UploadId domains.UploadId
+    ∷ must PartFirstByte domains.Position ∷ must PartLastByte domains.Position ∷ must LayerPartBlob domains.Blob ∷ []
+members_of CompleteLayerUpload =
+    may RegistryId domains.Account ∷ must RepositoryName domains.RepositoryName ∷ must UploadId domains.UploadId
+    ∷ must LayerDigests domains.LayerDigests ∷ []
+members_of BatchCheckLayerAvailability =
+    may RegistryId domains.Account ∷ must RepositoryName domains.RepositoryName
+    ∷ must LayerDigests domains.AskedLayers ∷ []
+members_of GetDownloadUrlForLayer =
+    may RegistryId domains.Account ∷ must RepositoryName domains.RepositoryName
+    ∷ must LayerDigest domains.LayerDigest ∷ []
 
 -- ---- what is asked
 
@@ -122,9 +146,31 @@ page_in values = record {
   max = unwrap_or (option_and_then rows_of (whole_in (value_at MaxResults values))) 100;
 }
 
--- a call on the repository of `repositoryName`, or the description of several repositories
+-- the number of the upload of `uploadId`; a text that isn't an id has 0, which no upload has
+abbrev pub upload_in : List Valued → ℕ
+upload_in values = unwrap_or (option_and_then upload_number (text_of_parameter UploadId values)) 0
+
+-- the place of a byte in an upload, where it is there
+abbrev pub position_in : Parameter → List Valued → Option ℕ
+position_in parameter values = option_and_then position_of (whole_in (value_at parameter values))
+
+-- the bytes of `layerPartBlob`
+abbrev pub part_in : List Valued → List ℕ
+part_in values = unwrap_or (bytes_in (value_at LayerPartBlob values)) []
+
+-- the texts of `layerDigests`
+abbrev pub layers_in : List Valued → List (List ℕ)
+layers_in values = unwrap_or (texts_in (value_at LayerDigests values)) []
+
+-- the digest that the text is, of which it is one
+abbrev pub digest_in : List ℕ → Digest
+digest_in text = unwrap_or (digest_of text) (record { bytes = [] })
+
+-- a call on the repository of `repositoryName`, with the bytes that come with it, or the description of several
+-- repositories
 pub data Made : Type 0 where
   one : Call → Made
+  with_bytes : Call → List ℕ → Made
   several : Made
 
 -- the call on a repository that the values make for an action, or the description of several
@@ -133,10 +179,19 @@ made_in CreateRepository values = one (Create (mutability_in values))
 made_in DeleteRepository values = one (Delete (force_in values))
 made_in DescribeRepositories values = several
 made_in PutImageTagMutability values = one (SetMutability (mutability_in values))
+made_in InitiateLayerUpload values = one (Initiate false)
+made_in UploadLayerPart values = with_bytes (UploadPart (upload_in values) (position_in PartFirstByte values)
+    (position_in PartLastByte values) (length (part_in values)) false) (part_in values)
+made_in CompleteLayerUpload values =
+    one (Complete (upload_in values) (filter_map digest_of (layers_in values)) false)
+made_in BatchCheckLayerAvailability values = one (CheckLayers (layers_in values))
+made_in GetDownloadUrlForLayer values =
+    one (Layer (digest_in (unwrap_or (text_of_parameter LayerDigest values) [])))
 
 -- the call with its repository, or with the names and the page that are described
 abbrev pub asked_in : SiteId → List SiteId → List Valued → Made → Asked
 asked_in base served values (one call) = cell (key_in base served values) call None
+asked_in base served values (with_bytes call content) = cell (key_in base served values) call (Some content)
 asked_in base served values several = many (site_in base served values) (names_in values) (page_in values)
 
 -- the call that the values make

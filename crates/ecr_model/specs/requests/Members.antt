@@ -4,6 +4,9 @@
 use Rattle.std.specs.Prelude.{ℕ, ◌+◌, ◌*◌, ◌-◌, ◌^◌, ℤ, pos, negsuc, Bool, true, false, not, ◌&&◌, ◌||◌, ◌==◌, nat_lt, nat_le, List, [], ◌∷◌, length, fold, Option, None, Some, is_some, if◌then◌else◌, find, codes, bytes_eq, option_map, option_and_then}
 use Rattle.std.specs.List.{list_all}
 use Rattle.std.specs.Option.{option_map_or}
+use Rattle.std.specs.Result.{result_ok}
+use Rattle.base64.specs.Engines.{standard}
+use Rattle.base64.specs.GeneralPurpose.{decode_of}
 use Rattle.serde_json.specs.Data.{Data, Items, no_items, item}
 use Rattle.serde_json.specs.Find.{get, as_null, as_str, as_bool, as_array, as_number, as_integer, as_object}
 use Rattle.ecr_model.specs.declared.requests.action.Domain.{Domain}
@@ -13,6 +16,7 @@ use Rattle.ecr_model.specs.declared.names.SiteId.{SiteId}
 use Rattle.ecr_model.specs.declared.requests.refusal.Parameter.{Parameter}
 use Rattle.ecr_model.specs.declared.registry.repository.Mutability.{Mutability}
 use Rattle.ecr_model.specs.declared.registry.repository.Mutability.TheVariants.{Mutable, Immutable}
+use Rattle.ecr_model.specs.names.Digests.{digest_of}
 use Rattle.ecr_model.specs.names.Names.{is_name}
 use Rattle.ecr_model.specs.documents.Policies.{texts_of}
 use Rattle.ecr_model.specs.requests.Refusals.{parameter_text}
@@ -40,6 +44,10 @@ are_texts (item d ds) = is_some (as_str d) && are_texts ds
 abbrev pub all_texts : Items → Option (List (List ℕ))
 all_texts items = if are_texts items then Some (texts_of items) else None
 
+-- the bytes that the text is the base64 of, where it is one, with its padding (RFC 4648, section 4)
+abbrev pub blob_of : List ℕ → Option (List ℕ)
+blob_of text = result_ok (decode_of standard text)
+
 -- ---- values by their types
 
 -- the value of a member
@@ -49,6 +57,7 @@ pub data Typed : Type 0 where
   whole : ℤ → Typed
   truth : Bool → Typed
   texts : List (List ℕ) → Typed
+  bytes : List ℕ → Typed
 
 -- the value read as the JSON type of the domain, at every level; none where it has another type
 abbrev pub typed : Domain → Data → Option Typed
@@ -59,6 +68,12 @@ typed domains.Mutability value = option_map text (as_str value)
 typed domains.Truth value = option_map truth (as_bool value)
 typed domains.Results value = option_map whole (as_whole value)
 typed domains.Token value = option_map text (as_str value)
+typed domains.UploadId value = option_map text (as_str value)
+typed domains.Position value = option_map whole (as_whole value)
+typed domains.Blob value = option_map bytes (option_and_then blob_of (as_str value))
+typed domains.LayerDigest value = option_map text (as_str value)
+typed domains.LayerDigests value = option_map texts (option_and_then all_texts (as_array value))
+typed domains.AskedLayers value = option_map texts (option_and_then all_texts (as_array value))
 
 -- the member's value in the body; none where it has another type
 abbrev pub typed_member : Data → Member → Option Typed
@@ -120,6 +135,11 @@ abbrev pub texts_in : Typed → Option (List (List ℕ))
 texts_in (texts ts) = Some ts
 texts_in _ = None
 
+-- the bytes that the value is
+abbrev pub bytes_in : Typed → Option (List ℕ)
+bytes_in (bytes b) = Some b
+bytes_in _ = None
+
 -- ---- allowed values
 
 -- the number that digits write
@@ -151,9 +171,26 @@ abbrev pub mutability_of : List ℕ → Option Mutability
 mutability_of name = if bytes_eq name (codes "MUTABLE") then Some Mutable
     else (if bytes_eq name (codes "IMMUTABLE") then Some Immutable else None)
 
+-- whether the texts are 1 to 100
+abbrev pub are_few : List (List ℕ) → Bool
+are_few items = nat_le 1 (length items) && nat_le (length items) 100
+
 -- whether the texts are 1 to 100 names of repositories
 abbrev pub are_names : List (List ℕ) → Bool
 are_names names = nat_le 1 (length names) && nat_le (length names) 100 && list_all is_name names
+
+-- whether the text is a digest
+abbrev pub is_digest : List ℕ → Bool
+is_digest digits = is_some (digest_of digits)
+
+-- whether the texts are 1 to 100 digests
+abbrev pub are_digests : List (List ℕ) → Bool
+are_digests items = are_few items && list_all is_digest items
+
+-- the place in an upload that the number is: below 2^63
+abbrev pub position_of : ℤ → Option ℕ
+position_of (pos n) = if nat_lt n (2 ^ 63) then Some n else None
+position_of (negsuc n) = None
 
 -- whether the value is in the domain, for a request to that site of those that are served
 abbrev pub allows : SiteId → List SiteId → Domain → Typed → Bool
@@ -164,6 +201,12 @@ allows base served domains.Mutability value = is_some (option_and_then mutabilit
 allows base served domains.Truth value = is_some (truth_in value)
 allows base served domains.Results value = is_some (option_and_then rows_of (whole_in value))
 allows base served domains.Token value = is_some (option_and_then token_place (text_in value))
+allows base served domains.UploadId value = is_some (text_in value)
+allows base served domains.Position value = is_some (option_and_then position_of (whole_in value))
+allows base served domains.Blob value = is_some (bytes_in value)
+allows base served domains.LayerDigest value = option_map_or is_digest (text_in value) false
+allows base served domains.LayerDigests value = option_map_or are_digests (texts_in value) false
+allows base served domains.AskedLayers value = option_map_or are_few (texts_in value) false
 
 -- whether the parameter, where one is given, has a value
 abbrev pub stands_beside : List Valued → Option Parameter → Bool

@@ -1,20 +1,25 @@
 -- Replies of the JSON API as bytes (Amazon ECR API Reference; RFC 8259). Keys stand in byte order, and moments are
 -- whole seconds. A text that isn't UTF-8 is rendered as the empty one.
-use Rattle.std.specs.Prelude.{ℕ, Bool, List, [], ◌∷◌, ◌++◌, length, Option, None, Some, codes, decimal}
+use Rattle.std.specs.Prelude.{ℕ, ◌-◌, Bool, List, [], ◌∷◌, ◌++◌, length, Option, None, Some, codes, decimal}
 use Rattle.serde_json.specs.Data.{Data, number, unsigned, string, array, object, Items, no_items, item, Members, member, no_members}
 use Rattle.serde_json.specs.Written.{compact_text}
 use Rattle.ecr_model.specs.declared.names.RepoKey.{RepoKey}
 use Rattle.ecr_model.specs.declared.names.SiteId.{SiteId}
 use Rattle.ecr_model.specs.declared.requests.refusal.Refusal.{Refusal}
+use Rattle.ecr_model.specs.declared.requests.call.Call.{Call}
+use Rattle.ecr_model.specs.declared.requests.call.Call.TheVariants.{UploadPart}
+use Rattle.ecr_model.specs.declared.requests.reply.CheckedLayer.{CheckedLayer}
 use Rattle.ecr_model.specs.declared.requests.reply.Described.{Described as Row}
 use Rattle.ecr_model.specs.declared.requests.reply.Reply.{Reply}
-use Rattle.ecr_model.specs.declared.requests.reply.Reply.TheVariants.{Created, Deleted, Described, MutabilitySet, Refused}
+use Rattle.ecr_model.specs.declared.requests.reply.Reply.TheVariants.{Created, Deleted, Described, MutabilitySet, Initiated, PartTaken, UploadState, Completed, Checked, Layer, Refused}
 use Rattle.ecr_model.specs.declared.registry.repository.Mutability.{Mutability}
 use Rattle.ecr_model.specs.declared.registry.repository.Mutability.TheVariants.{Mutable, Immutable}
 use Rattle.ecr_model.specs.requests.Actions.{Asked, cell, site, many}
 use Rattle.ecr_model.specs.requests.Refusals.{refusal_data}
 use Rattle.ecr_model.specs.http.Replies.{json_head}
-use Rattle.ecr_model.specs.names.Sites.{utf8_or_empty, arn_of, uri_of}
+use Rattle.ecr_model.specs.names.Digests.{digest_text}
+use Rattle.ecr_model.specs.names.Sites.{utf8_or_empty, arn_of, uri_of, download_url}
+use Rattle.ecr_model.specs.names.Uploads.{upload_id}
 
 -- `imageTagMutability`
 abbrev pub mutability_text : Mutability → List ℕ
@@ -57,6 +62,72 @@ abbrev pub with_token : Option ℕ → Members → Members
 with_token None members = members
 with_token (Some place) members = member (codes "nextToken") (string (decimal place)) members
 
+-- ---- uploads and layers
+
+-- the bytes of a part that InitiateLayerUpload advises (of this registry)
+unfoldable pub part_size : ℕ
+part_size = 10485760
+
+-- the number of the upload that a call takes a part for
+abbrev pub upload_of_call : Call → Option ℕ
+upload_of_call (UploadPart upload first last size docker) = Some upload
+upload_of_call _ = None
+
+-- that of what was asked, where it is such a call
+abbrev pub upload_asked : Asked → Option ℕ
+upload_asked (cell key call given) = upload_of_call call
+upload_asked (site s call) = None
+upload_asked (many s names page) = None
+
+-- the members of a repository's key, and then these
+abbrev pub with_key : RepoKey → Members → Members
+with_key key members =
+    member (codes "registryId") (string (utf8_or_empty key.site.account))
+    (member (codes "repositoryName") (string (utf8_or_empty key.name.text)) members)
+
+-- `uploadId`
+abbrev pub id_of_upload : ℕ → Members
+id_of_upload upload = member (codes "uploadId") (string (upload_id upload)) no_members
+
+-- an upload and the last byte that it has received
+abbrev pub upload_data : RepoKey → ℕ → ℕ → Data
+upload_data key upload received =
+    object (member (codes "lastByteReceived") (number (unsigned (received - 1)))
+    (with_key key (id_of_upload upload)))
+
+-- a text that isn't a digest (Amazon ECR API Reference, `LayerFailure`)
+abbrev pub failure_data : List ℕ → Data
+failure_data text =
+    object (member (codes "failureCode") (string (codes "InvalidLayerDigest"))
+    (member (codes "failureReason") (string (codes "invalid layer digest"))
+    (member (codes "layerDigest") (string (utf8_or_empty text)) no_members)))
+
+-- the failures in order
+abbrev pub failures_data : List (List ℕ) → Items
+failures_data [] = no_items
+failures_data (text ∷ texts) = item (failure_data text) (failures_data texts)
+
+-- `layerSize`, where the layer is stored
+abbrev pub with_size : Option ℕ → Members
+with_size None = no_members
+with_size (Some size) = member (codes "layerSize") (number (unsigned size)) no_members
+
+-- `layerAvailability`
+abbrev pub availability_text : Option ℕ → List ℕ
+availability_text None = codes "UNAVAILABLE"
+availability_text (Some size) = codes "AVAILABLE"
+
+-- a layer that was asked for
+abbrev pub layer_data : CheckedLayer → Data
+layer_data layer =
+    object (member (codes "layerAvailability") (string (availability_text layer.size))
+    (member (codes "layerDigest") (string (digest_text layer.digest)) (with_size layer.size)))
+
+-- the layers in order
+abbrev pub layers_data : List CheckedLayer → Items
+layers_data [] = no_items
+layers_data (layer ∷ layers) = item (layer_data layer) (layers_data layers)
+
 -- the body of a reply to what was asked
 unfoldable pub reply_data : Asked → Reply → Data
 reply_data asked (Created created mutability) =
@@ -69,7 +140,20 @@ reply_data asked (MutabilitySet mutability) =
     object (member (codes "imageTagMutability") (string (mutability_text mutability))
     (member (codes "registryId") (string (utf8_or_empty (key_asked asked).site.account))
     (member (codes "repositoryName") (string (utf8_or_empty (key_asked asked).name.text)) no_members)))
-reply_data asked (Refused refusal) = refusal_data refusal (Some (key_asked asked)) None
+reply_data asked (Initiated upload) =
+    object (member (codes "partSize") (number (unsigned part_size)) (id_of_upload upload))
+reply_data asked (PartTaken upload received) = upload_data (key_asked asked) upload received
+reply_data asked (UploadState upload received) = upload_data (key_asked asked) upload received
+reply_data asked (Completed upload digest) =
+    object (member (codes "layerDigest") (string (digest_text digest))
+    (with_key (key_asked asked) (id_of_upload upload)))
+reply_data asked (Checked failures layers) =
+    object (member (codes "failures") (array (failures_data failures))
+    (member (codes "layers") (array (layers_data layers)) no_members))
+reply_data asked (Layer digest size) =
+    object (member (codes "downloadUrl") (string (download_url (key_asked asked) digest))
+    (member (codes "layerDigest") (string (digest_text digest)) no_members))
+reply_data asked (Refused refusal) = refusal_data refusal (Some (key_asked asked)) (upload_asked asked)
 
 -- the status of a reply
 abbrev pub status_of : Reply → List ℕ
@@ -81,7 +165,7 @@ abbrev pub with_head : Bool → List ℕ → List ℕ → List ℕ
 with_head close status body = json_head close status (length body) ++ body
 
 -- the reply to what was asked with the content that it carries, where `close` says that the session closes after it; no
--- body shows content yet
+-- body shows content
 unfoldable pub json : Asked → Reply → List (List ℕ) → Bool → List ℕ
 json asked reply contents close = with_head close (status_of reply) (compact_text (reply_data asked reply))
 

@@ -9,7 +9,7 @@ use Rattle.ecr_model.specs.http.Replies.{failed_reply, is_head}
 use Rattle.ecr_model.specs.http.Stream.{closes}
 use Rattle.ecr_model.specs.registry.Contents.{AreContents}
 use Rattle.ecr_model.specs.registry.Scripts.{Ask, Script, ends, turn, Realm, Journals, count_changed, same_cell}
-use Rattle.ecr_model.specs.registry.Views.{AreAhead, Halts, MaySeal, PlacedTurn, Views, among, answer_at, caller_of, entered_in, journals_of, own_of, past_of, places_of, result_of}
+use Rattle.ecr_model.specs.registry.Views.{AreAhead, Halts, IsSealedAs, PlacedTurn, Views, among, answer_at, caller_of, entered_in, journals_of, own_of, past_of, places_of, result_of}
 use Rattle.ecr_model.specs.requests.Posed.{posed_bytes, posed_of}
 use Rattle.ecr_model.specs.requests.Requests.{Decided}
 use Rattle.ecr_model.specs.sessions.Sessions.{Account, Chain, Exchange, IsTime, Outside, ServesBy, SettingOf, StandingOf, script_of}
@@ -20,7 +20,7 @@ use Rattle.ecr_model.specs.sessions.Sessions.{Account, Chain, Exchange, IsTime, 
 pub record IsTurn (realm : Realm) (journals : Journals) (cell : CellKey) (ask : Ask) (made : PlacedTurn) : Type 0 where
   pub cell_is : made.place.cell ≡ cell
   pub changed_is : made.place.changed ≡ is_some (result_of realm cell (journals cell) ask made).entry
-  pub sealed_is : MaySeal ask made.sealed
+  pub sealed_is : IsSealedAs (result_of realm cell (journals cell) ask made) made.sealed
 
 -- the first turns of the script were made so, in their order
 unfoldable pub AreFirstTurns : {A : Type 0} → Realm → Journals → Script A → List PlacedTurn → Type 0

@@ -8,6 +8,11 @@ pub enum Action {
     DeleteRepository,
     DescribeRepositories,
     PutImageTagMutability,
+    InitiateLayerUpload,
+    UploadLayerPart,
+    CompleteLayerUpload,
+    BatchCheckLayerAvailability,
+    GetDownloadUrlForLayer,
 }
 
 /// The values that a member may have: their JSON type, and which of it are allowed.
@@ -27,6 +32,18 @@ pub enum Domain {
     Results,
     /// A text: a place below 2^63, in decimal.
     Token,
+    /// A text: the id of an upload, well formed or not.
+    UploadId,
+    /// A whole number from 0 to 2^63 - 1: a place in an upload.
+    Position,
+    /// Bytes in base64.
+    Blob,
+    /// A text: a digest.
+    LayerDigest,
+    /// A list of texts: 1 to 100 digests.
+    LayerDigests,
+    /// A list of 1 to 100 texts: digests, each well formed or not.
+    AskedLayers,
 }
 
 /// A member of an action's body.

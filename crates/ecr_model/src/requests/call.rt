@@ -1,19 +1,66 @@
 // What is asked of a repository and of a site.
 ghost use Rattle.std.proofs.Common.{arith};
 
-use crate::{Digest, Facts, Mutability, Tag, Text, Twin};
+use crate::{Digest, Facts, Listed, Mutability, Tag, Text, Twin};
 
 /// A call on a repository (Amazon ECR API Reference, "Actions").
 #[derive(Clone, Drop)]
 pub enum Call {
     /// `CreateRepository`
-    Create { mutability: Mutability },
+    Create {
+        mutability: Mutability,
+    },
     /// `DeleteRepository`; `force` deletes one that has images too.
-    Delete { force: bool },
+    Delete {
+        force: bool,
+    },
     /// One row of `DescribeRepositories`.
     Describe,
     /// `PutImageTagMutability`
-    SetMutability { mutability: Mutability },
+    SetMutability {
+        mutability: Mutability,
+    },
+    /// `InitiateLayerUpload`
+    Initiate {
+        /// Whether it came by the front that the Docker tool uses.
+        docker: bool,
+    },
+    /// `UploadLayerPart`
+    UploadPart {
+        /// The upload's number.
+        upload: u64,
+        /// The stated place of its first byte in the upload, from 0.
+        first: Option<u64>,
+        /// The stated place of its last byte.
+        last: Option<u64>,
+        /// In bytes.
+        size: u64,
+        /// Whether it came by the front that the Docker tool uses.
+        docker: bool,
+    },
+    /// `CompleteLayerUpload`
+    Complete {
+        /// The upload's number.
+        upload: u64,
+        /// Those of which the layer's is to be one.
+        digests: Listed<Digest>,
+        /// Whether it came by the front that the Docker tool uses.
+        docker: bool,
+    },
+    /// The bytes that an upload has received.
+    UploadState {
+        /// The upload's number.
+        upload: u64,
+    },
+    /// `BatchCheckLayerAvailability`
+    CheckLayers {
+        /// Digests, each well formed or not.
+        asked: Listed<Text>,
+    },
+    /// `GetDownloadUrlForLayer`
+    Layer {
+        digest: Digest,
+    },
 }
 
 impl Twin for Call {

@@ -1,5 +1,5 @@
 // What a call is answered.
-use crate::{Listed, Moment, Mutability, Name, Refusal};
+use crate::{Digest, Listed, Moment, Mutability, Name, Refusal, Text};
 
 /// A repository in a reply (Amazon ECR API Reference, `Repository`).
 #[derive(Drop)]
@@ -8,6 +8,14 @@ pub struct Described {
     /// When it was created, in seconds.
     pub created: Moment,
     pub mutability: Mutability,
+}
+
+/// A layer that was asked for (Amazon ECR API Reference, `Layer`).
+#[derive(Clone, Copy, Debug, PartialEq, Eq)]
+pub struct CheckedLayer {
+    pub digest: Digest,
+    /// In bytes; None where the layer isn't stored.
+    pub size: Option<u64>,
 }
 
 /// What a call on repositories is answered.
@@ -32,6 +40,40 @@ pub enum Reply {
     /// This is the repository's mutability from now on.
     MutabilitySet {
         mutability: Mutability,
+    },
+    /// The upload of this number was begun.
+    Initiated {
+        upload: u64,
+    },
+    /// The upload has the part too.
+    PartTaken {
+        upload: u64,
+        /// The bytes that it has received, the part's among them.
+        received: u64,
+    },
+    /// The upload is in progress.
+    UploadState {
+        upload: u64,
+        /// The bytes that it has received.
+        received: u64,
+    },
+    /// The upload has ended, and its layer is stored.
+    Completed {
+        upload: u64,
+        digest: Digest,
+    },
+    /// The layers that were asked for.
+    Checked {
+        /// The texts that are no digests, as asked.
+        failures: Listed<Text>,
+        /// One for each of the others, in the order asked.
+        layers: Listed<CheckedLayer>,
+    },
+    /// The layer is stored.
+    Layer {
+        digest: Digest,
+        /// In bytes.
+        size: u64,
     },
     /// Nothing changed.
     Refused(Refusal),

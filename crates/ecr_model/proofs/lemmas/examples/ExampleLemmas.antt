@@ -24,7 +24,8 @@ use Rattle.ecr_model.specs.requests.Refusals.{parameter_text}
 use Rattle.ecr_model.specs.requests.Rendered.{json, reply_data, repository_data}
 use Rattle.ecr_model.specs.http.Replies.{json_head, connection_line, interim}
 use Rattle.ecr_model.specs.requests.Requests.{Decided, plain, asked_script, call_script, first_turn, then_cell}
-use Rattle.ecr_model.specs.registry.Scripts.{Run, then_do, run, entered, turn_at, with_lines, parts_after, fresh}
+use Rattle.ecr_model.specs.registry.Contents.{named_by}
+use Rattle.ecr_model.specs.registry.Scripts.{sealed_in, Run, then_do, run, entered, turn_at, with_lines, parts_after, fresh}
 use Rattle.ecr_model.specs.registry.Limits.{standard}
 use Rattle.ecr_model.specs.registry.Steps as steps
 use Rattle.ecr_model.specs.declared.requests.call.Call.TheVariants.{Create}
@@ -51,7 +52,7 @@ ran = run example_realm fresh (posed_script creation 1700000000)
 
 -- the reply, the number of entries and the places of its turns
 answered : (ran.answer ≡ plain (Created 1700000000 Mutable)) × (ran.entries ≡ 2) × (ran.places ≡ first_places)
-unfolding posed_script asked_script call_script first_turn then_cell then_do run entered turn_at with_lines parts_after
+unfolding posed_script asked_script call_script first_turn then_cell then_do run entered turn_at sealed_in with_lines parts_after
     fresh replay directory_after_line first_directory registration standard steps.step steps.first_state
     steps.after_line
 answered = (refl, refl, refl)
@@ -98,7 +99,8 @@ first_served =
         first = ([], there ∙ sym (append-nil first_places));
         changed = omega arith;
       };
-      carries = refl;
+      carries = sym (ap (λ (r : Run Decided). named_by r.answer.reply) outcome-posed
+          ∙ ap (λ (d : Decided). named_by d.reply) answered.0);
       bytes = sym a_first_creation_is_answered;
       leaves = refl;
     }

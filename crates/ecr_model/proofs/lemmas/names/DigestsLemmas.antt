@@ -69,13 +69,13 @@ digit-written c v h e =
     eqb-true (slice_index lower_digits v) c at_value
 
 -- a digit's value is below 16
-hex_digit_value-small : (c v : ℕ) → hex_digit_value c ≡ Some v → v < 16
+pub hex_digit_value-small : (c v : ℕ) → hex_digit_value c ≡ Some v → v < 16
 hex_digit_value-small c v h = grind arith
 
 -- ---- the digits of some bytes
 
 -- they are digits in lower case
-list_all-encode_lower : (bytes : List ℕ) → IsBytes bytes → list_all is_hex_digit (encode_lower bytes) ≡ true
+pub list_all-encode_lower : (bytes : List ℕ) → IsBytes bytes → list_all is_hex_digit (encode_lower bytes) ≡ true
 unfolding encode_with
 list_all-encode_lower [] h = refl
 list_all-encode_lower (b ∷ rest) h =
@@ -86,18 +86,18 @@ list_all-encode_lower (b ∷ rest) h =
     rw (high, low, ih) refl
 
 -- what an `Ok` after `>>=` shows
-bind_ok : {A B : Type 0} (r : Result A FromHexError) (f : A → Result B FromHexError) (y : B)
+pub bind_ok : {A B : Type 0} (r : Result A FromHexError) (f : A → Result B FromHexError) (y : B)
     → (r >>= f) ≡ Ok y → (x : A) × (r ≡ Ok x) × (f x ≡ Ok y)
 bind_ok (Ok x) f y h = (x, refl, h)
 bind_ok (Err e) f y h = cc h
 
 -- the value of a digit that read
-digit_read : (c i : ℕ) (o : Option ℕ) (v : ℕ) → digit_or_error c i o ≡ Ok v → o ≡ Some v
+pub digit_read : (c i : ℕ) (o : Option ℕ) (v : ℕ) → digit_or_error c i o ≡ Ok v → o ≡ Some v
 digit_read c i (Some w) v h = ap Some (ap (λ (r : Result ℕ FromHexError). result_unwrap_or r 0) h)
 digit_read c i None v h = cc h
 
 -- the bytes that digits in lower case decode to have these digits
-encode_lower-decode_pairs : (i : ℕ) (s bytes : List ℕ) → decode_pairs i s ≡ Ok bytes
+pub encode_lower-decode_pairs : (i : ℕ) (s bytes : List ℕ) → decode_pairs i s ≡ Ok bytes
     → list_all is_hex_digit s ≡ true → encode_lower bytes ≡ s
 unfolding decode_pairs encode_with
 encode_lower-decode_pairs i [] bytes h p =

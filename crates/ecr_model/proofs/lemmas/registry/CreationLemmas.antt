@@ -17,7 +17,7 @@ use Rattle.ecr_model.specs.declared.registry.repository.Repository.{Repository a
 use Rattle.ecr_model.specs.registry.Directories as directories
 use Rattle.ecr_model.specs.registry.Journals.{past}
 use Rattle.ecr_model.specs.requests.Requests.{plain, beside_of, call_script, first_turn, then_cell, cell_turn}
-use Rattle.ecr_model.specs.registry.Scripts.{ends, Realm, World, frame_of, next_ticket, run, then_do, turn_at, with_lines, entered, registers}
+use Rattle.ecr_model.specs.registry.Scripts.{Ask, call, register, ends, Realm, World, frame_of, next_ticket, run, then_do, turn_at, sealed_in, with_lines, entered, registers}
 use Rattle.ecr_model.specs.laws.ScriptLaws.{ACreationIsKept}
 use Rattle.ecr_model.specs.registry.Steps as steps
 use Rattle.ecr_model.proofs.lemmas.registry.CellLemmas.{same_key-self}
@@ -47,18 +47,18 @@ enters true after moment created mutability shown is = absurd (cc)
 enters false after moment created mutability shown is = refl
 
 -- the line of an entry stands behind the others
-stands : (realm : Realm) (world : World) (key : RepoKey) (entry : Option Entry) (e : Entry) → entry ≡ Some e
-    → (entered realm world (Repository key) entry).journals (Repository key)
+stands : (realm : Realm) (world : World) (key : RepoKey) (ask : Ask) (entry : Option Entry) (e : Entry) → entry ≡ Some e
+    → (entered realm world (Repository key) ask entry).journals (Repository key)
     ≡ world.journals (Repository key) ++ record {
       ticket = next_ticket world (Repository key);
       caller = 0;
       entry = e;
     } ∷ []
 unfolding entered with_lines
-stands realm world key entry e is =
+stands realm world key ask entry e is =
     let lines = world.journals
     (Repository key) ++ record { ticket = next_ticket world (Repository key); caller = 0; entry = e } ∷ [] in
-    ap (λ o. (entered realm world (Repository key) o).journals (Repository key)) is
+    ap (λ o. (entered realm world (Repository key) ask o).journals (Repository key)) is
     ∙ ap (λ b. if b then lines else world.journals (Repository key)) (same_key-self key)
 
 -- the turn in the repository
@@ -67,12 +67,12 @@ in_cell : (realm : Realm) (world : World) (key : RepoKey) (mutability shown : Mu
     → (run realm world (cell_turn key (Create mutability) given moment)).answer.reply ≡ Created created shown
     → (run realm world (cell_turn key (Create mutability) given moment)).world.journals (Repository key)
     ≡ world.journals (Repository key) ++ line_at world key given moment mutability ∷ []
-unfolding run turn_at steps.step
+unfolding run turn_at sealed_in steps.step
 in_cell realm world key mutability shown given moment created is =
     let s : State = steps.repository_at key realm.limits (world.journals (Repository key))
     (next_ticket world (Repository key)) in
     let after : State = record s { present = Some (record { created = moment; mutability = mutability }) } in
-    stands realm world key (option_map (λ x. entry_of moment mutability)
+    stands realm world key (call (beside_of given moment) (Create mutability)) (option_map (λ x. entry_of moment mutability)
     (either (is_some s.present) after moment mutability).after) (entry_of moment mutability)
     (enters (is_some s.present) after moment created mutability shown is)
 
@@ -83,40 +83,40 @@ unfolding run
 ends_refused realm world refusal created shown is = absurd (cc)
 
 -- an entry in a directory leaves the repository's journal as it was
-directory_apart : (realm : Realm) (world : World) (site : SiteId) (key : RepoKey) (entry : Option Entry)
-    → (entered realm world (Directory site) entry).journals (Repository key) ≡ world.journals (Repository key)
+directory_apart : (realm : Realm) (world : World) (site : SiteId) (key : RepoKey) (ask : Ask) (entry : Option Entry)
+    → (entered realm world (Directory site) ask entry).journals (Repository key) ≡ world.journals (Repository key)
 unfolding entered with_lines
-directory_apart realm world site key None = refl
-directory_apart realm world site key (Some entry) = refl
+directory_apart realm world site key ask None = refl
+directory_apart realm world site key ask (Some entry) = refl
 
 -- the name's registration leaves the repository's journal as it was, and refuses a creation where it is one too many
 after_name : (realm : Realm) (world : World) (key : RepoKey) (mutability shown : Mutability) (given : Option (List ℕ))
     (moment created : ℕ) (r : Registered)
-    → (run realm (entered realm world (Directory key.site) (registers key.name r).entry)
+    → (run realm (entered realm world (Directory key.site) (register key.name) (registers key.name r).entry)
     (then_cell key (Create mutability) given moment (registers key.name r).told)).answer.reply
     ≡ Created created shown
-    → (run realm (entered realm world (Directory key.site) (registers key.name r).entry)
+    → (run realm (entered realm world (Directory key.site) (register key.name) (registers key.name r).entry)
     (then_cell key (Create mutability) given moment (registers key.name r).told)).world.journals (Repository key)
     ≡ world.journals (Repository key) ++ line_at world key given moment mutability ∷ []
 unfolding then_cell
 after_name realm world key mutability shown given moment created New is =
-    let mid : World = entered realm world (Directory key.site) (registers key.name New).entry in
+    let mid : World = entered realm world (Directory key.site) (register key.name) (registers key.name New).entry in
     in_cell realm mid key mutability shown given moment created is
     ∙ ap (λ ls. ls ++ steps.line_of 0 (steps.turn_of (past ls) None (beside_of given moment)) (Create mutability) ∷ [])
-    (directory_apart realm world key.site key (registers key.name New).entry)
+    (directory_apart realm world key.site key (register key.name) (registers key.name New).entry)
 after_name realm world key mutability shown given moment created Known is =
-    let mid : World = entered realm world (Directory key.site) (registers key.name Known).entry in
+    let mid : World = entered realm world (Directory key.site) (register key.name) (registers key.name Known).entry in
     in_cell realm mid key mutability shown given moment created is
     ∙ ap (λ ls. ls ++ steps.line_of 0 (steps.turn_of (past ls) None (beside_of given moment)) (Create mutability) ∷ [])
-    (directory_apart realm world key.site key (registers key.name Known).entry)
+    (directory_apart realm world key.site key (register key.name) (registers key.name Known).entry)
 after_name realm world key mutability shown given moment created (Full limit count) is =
     absurd (ends_refused realm
-    (entered realm world (Directory key.site) (registers key.name (Full limit count)).entry)
+    (entered realm world (Directory key.site) (register key.name) (registers key.name (Full limit count)).entry)
     (LimitExceeded limit count) created shown is)
 
 -- a creation that is answered stands in the repository's journal once more, behind its other lines
 pub a_creation_is_kept : ACreationIsKept
-unfolding call_script first_turn then_do run turn_at
+unfolding call_script first_turn then_do run turn_at sealed_in
 a_creation_is_kept realm world key mutability shown given moment created is =
     let frame = frame_of realm key.site in
     let d = directories.directory_at frame (world.journals (Directory key.site))

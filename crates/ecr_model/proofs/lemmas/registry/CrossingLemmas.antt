@@ -1,5 +1,6 @@
 -- Which types may cross threads, as a set for `search`.
 use denote.Param.Send.{IsSend, sendable}
+use denote.Param.SendFields.{VariantsHave, variants_send}
 use Rattle.std.proofs.Crossing.{crosses}
 use Rattle.ecr_model.specs.contracts.requests.call.Call as Call
 use Rattle.ecr_model.specs.contracts.registry.directory.Registered as Registered
@@ -14,10 +15,12 @@ use Rattle.ecr_model.specs.contracts.names.Name as Name
 use Rattle.ecr_model.specs.contracts.names.RepoKey as RepoKey
 use Rattle.ecr_model.specs.contracts.names.SiteId as SiteId
 use Rattle.ecr_model.specs.contracts.requests.refusal.Refusal as Refusal
+use Rattle.ecr_model.specs.contracts.requests.reply.CheckedLayer as CheckedLayer
 use Rattle.ecr_model.specs.contracts.requests.reply.Described as Described
 use Rattle.ecr_model.specs.contracts.requests.reply.Reply as Reply
 use Rattle.ecr_model.specs.contracts.requests.reply.SiteReply as SiteReply
 use Rattle.ecr_model.specs.contracts.values.shared.SharedText as SharedText
+use Rattle.ecr_model.specs.contracts.values.text.Text as Text
 
 -- shared texts may cross threads
 pub SharedText-send : IsSend SharedText.the_row
@@ -79,9 +82,21 @@ Refusal-send = search (Digest-send, sendable, crosses) depth 60 fits 20000
 pub Described-send : IsSend Described.the_row
 Described-send = search (sendable, crosses) depth 60 fits 20000
 
+-- texts may cross threads
+pub Text-send : IsSend Text.the_row
+Text-send = search (sendable, crosses) depth 60 fits 20000
+
+-- layers that were asked for may cross threads
+pub CheckedLayer-send : IsSend CheckedLayer.the_row
+CheckedLayer-send = search (sendable, crosses) depth 60 fits 20000
+
+Reply-fields : VariantsHave IsSend Reply.the_parts
+Reply-fields =
+    search (Described-send, CheckedLayer-send, Digest-send, Text-send, Refusal-send, sendable, crosses) depth 60 fits 20000
+
 -- replies may cross threads
 pub Reply-send : IsSend Reply.the_row
-Reply-send = search (Described-send, sendable, crosses) depth 60 fits 20000
+Reply-send = variants_send Reply.enum Reply-fields
 
 -- a site's replies may cross threads
 pub SiteReply-send : IsSend SiteReply.the_row
@@ -102,6 +117,8 @@ pub ruleset crossing = (
   Place-send,
   Registered-send,
   Refusal-send,
+  Text-send,
+  CheckedLayer-send,
   Described-send,
   Reply-send,
   SiteReply-send,

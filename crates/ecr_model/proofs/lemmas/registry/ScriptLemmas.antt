@@ -14,7 +14,7 @@ run-then_do realm world (ends a) next =
     record { world_is = refl; places_are = refl; entries_are = omega arith; answer_is = refl }
 run-then_do realm world (turn cell ask told) next =
     let turned : Turned = next_turn realm world cell ask in
-    let rest = run-then_do realm (entered realm world cell turned.entry) (told turned.told) next in
+    let rest = run-then_do realm (entered realm world cell ask turned.entry) (told turned.told) next in
     record {
       world_is = rest.world_is;
       places_are = ap (λ ps. place_of cell (next_ticket world cell) turned ∷ ps) rest.places_are;
@@ -23,11 +23,11 @@ run-then_do realm world (turn cell ask told) next =
     }
 
 -- where nothing is entered the world stays
-pub entered-none : (realm : Realm) (world : World) (cell : CellKey) (entry : Option Entry) → entry_count entry ≤ 0
-    → entered realm world cell entry ≡ world
+pub entered-none : (realm : Realm) (world : World) (cell : CellKey) (ask : Ask) (entry : Option Entry)
+    → entry_count entry ≤ 0 → entered realm world cell ask entry ≡ world
 unfolding entered
-entered-none realm world cell None none = refl
-entered-none realm world cell (Some e) none = absurd (omega (arith, none))
+entered-none realm world cell ask None none = refl
+entered-none realm world cell ask (Some e) none = absurd (omega (arith, none))
 
 -- a script without entries leaves the journals as they were
 pub run-none : {A : Type 0} (realm : Realm) (world : World) (script : Script A)
@@ -36,8 +36,8 @@ unfolding run
 run-none realm world (ends a) none = refl
 run-none realm world (turn cell ask told) none =
     let turned : Turned = next_turn realm world cell ask in
-    run-none realm (entered realm world cell turned.entry) (told turned.told) (omega (arith, none))
-    ∙ entered-none realm world cell turned.entry (omega (arith, none))
+    run-none realm (entered realm world cell ask turned.entry) (told turned.told) (omega (arith, none))
+    ∙ entered-none realm world cell ask turned.entry (omega (arith, none))
 
 -- up to no entry nothing changes
 pub run_to-none : {A : Type 0} (realm : Realm) (world : World) (script : Script A)
@@ -54,7 +54,7 @@ run_to-all n realm world (ends a) enough = refl
 run_to-all zero realm world (turn cell ask told) enough = sym (run-none realm world (turn cell ask told) enough)
 run_to-all (suc n) realm world (turn cell ask told) enough =
     let turned : Turned = next_turn realm world cell ask in
-    run_to-all (suc n - entry_count turned.entry) realm (entered realm world cell turned.entry) (told turned.told)
+    run_to-all (suc n - entry_count turned.entry) realm (entered realm world cell ask turned.entry) (told turned.told)
     (omega (arith, enough))
 
 -- up to entries of the first script, the first script decides
@@ -66,7 +66,7 @@ run_to-first (suc n) realm world (ends a) next within = absurd (omega (arith, wi
 run_to-first zero realm world (turn cell ask told) next within = refl
 run_to-first (suc n) realm world (turn cell ask told) next within =
     let turned : Turned = next_turn realm world cell ask in
-    run_to-first (suc n - entry_count turned.entry) realm (entered realm world cell turned.entry)
+    run_to-first (suc n - entry_count turned.entry) realm (entered realm world cell ask turned.entry)
     (told turned.told) next
     (omega (arith, within))
 
@@ -75,19 +75,19 @@ pub run_to-turn : {A : Type 0} (k m : ℕ) (realm : Realm) (world : World) (cell
     (told : Told → Script A)
     → k ≡ entry_count (next_turn realm world cell ask).entry + m
     → run_to k realm world (turn cell ask told)
-    ≡ run_to m realm (entered realm world cell (next_turn realm world cell ask).entry)
+    ≡ run_to m realm (entered realm world cell ask (next_turn realm world cell ask).entry)
     (told (next_turn realm world cell ask).told)
 unfolding run_to
 run_to-turn zero m realm world cell ask told is =
     let turned : Turned = next_turn realm world cell ask in
-    let stays : entered realm world cell turned.entry ≡ world =
-    entered-none realm world cell turned.entry (omega (arith, is)) in
+    let stays : entered realm world cell ask turned.entry ≡ world =
+    entered-none realm world cell ask turned.entry (omega (arith, is)) in
     let zero_is : 0 ≡ m = omega (arith, is) in
-    subst (λ k. world ≡ run_to k realm (entered realm world cell turned.entry) (told turned.told)) zero_is
-    (sym (run_to-none realm (entered realm world cell turned.entry) (told turned.told) ∙ stays))
+    subst (λ k. world ≡ run_to k realm (entered realm world cell ask turned.entry) (told turned.told)) zero_is
+    (sym (run_to-none realm (entered realm world cell ask turned.entry) (told turned.told) ∙ stays))
 run_to-turn (suc k) m realm world cell ask told is =
     let turned : Turned = next_turn realm world cell ask in
-    ap (λ n. run_to n realm (entered realm world cell turned.entry) (told turned.told)) (omega (arith, is))
+    ap (λ n. run_to n realm (entered realm world cell ask turned.entry) (told turned.told)) (omega (arith, is))
 
 -- up to entries past the first script, it ran whole
 pub run_to-then : {A B : Type 0} (n : ℕ) (realm : Realm) (world : World) (script : Script A) (next : A → Script B)
@@ -97,10 +97,10 @@ unfolding run then_do
 run_to-then n realm world (ends a) next = ap (λ k. run_to k realm world (next a)) (omega arith)
 run_to-then n realm world (turn cell ask told) next =
     let turned : Turned = next_turn realm world cell ask in
-    let rest = run realm (entered realm world cell turned.entry) (told turned.told) in
+    let rest = run realm (entered realm world cell ask turned.entry) (told turned.told) in
     run_to-turn (entry_count turned.entry + rest.entries + n) (rest.entries + n) realm world cell ask
     (λ t. then_do (told t) next) (omega arith)
-    ∙ run_to-then n realm (entered realm world cell turned.entry) (told turned.told) next
+    ∙ run_to-then n realm (entered realm world cell ask turned.entry) (told turned.told) next
 
 -- ---- places
 
@@ -125,6 +125,6 @@ count_changed-run realm world (turn cell ask told) =
     omega (
       arith,
       entry_count-place turned.entry,
-      count_changed-run realm (entered realm world cell turned.entry)
+      count_changed-run realm (entered realm world cell ask turned.entry)
           (told turned.told),
     )

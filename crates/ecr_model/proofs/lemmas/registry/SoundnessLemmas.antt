@@ -107,22 +107,22 @@ sound-empty realm (Repository key) = tt
 -- ---- runs
 
 -- the journal of a cell after an entry in one cell
-journal-entered : (realm : Realm) (world : World) (cell other : CellKey) (entry : Option Entry)
+journal-entered : (realm : Realm) (world : World) (cell other : CellKey) (ask : Ask) (entry : Option Entry)
     (P : CellKey → List Line → Type 0)
     → P cell (lines_after 0 (next_ticket world cell) (world.journals cell) entry) → P other (world.journals other)
-    → P other ((entered realm world cell entry).journals other)
+    → P other ((entered realm world cell ask entry).journals other)
 unfolding entered with_lines
-journal-entered realm world cell other None P there elsewhere = elsewhere
-journal-entered realm world cell other (Some entry) P there elsewhere =
+journal-entered realm world cell other ask None P there elsewhere = elsewhere
+journal-entered realm world cell other ask (Some entry) P there elsewhere =
     let lines : List Line = lines_after 0 (next_ticket world cell) (world.journals cell) (Some entry) in
     cond_both (same_cell cell other) lines (world.journals other) (λ (ls : List Line). P other ls)
     (λ same. subst (λ (k : CellKey). P k lines) (same_cell-same cell other same) there) (λ apart. elsewhere)
 
 -- the next turn in a cell keeps all journals sound
 pub sound-entered : (realm : Realm) (world : World) (cell : CellKey) (ask : Ask) → AreSound realm world.journals
-    → AreSound realm (entered realm world cell (next_turn realm world cell ask).entry).journals
+    → AreSound realm (entered realm world cell ask (next_turn realm world cell ask).entry).journals
 sound-entered realm world cell ask sound other =
-    journal-entered realm world cell other (next_turn realm world cell ask).entry (IsSoundIn realm)
+    journal-entered realm world cell other ask (next_turn realm world cell ask).entry (IsSoundIn realm)
     (sound-turn realm cell (world.journals cell) 0 (next_ticket world cell) _ ask (sound cell) (omega arith))
     (sound other)
 
@@ -133,7 +133,7 @@ unfolding run
 sound-run realm world (ends a) sound = sound
 sound-run realm world (turn cell ask next) sound =
     let turned : Turned = next_turn realm world cell ask in
-    sound-run realm (entered realm world cell turned.entry) (next turned.told)
+    sound-run realm (entered realm world cell ask turned.entry) (next turned.told)
     (sound-entered realm world cell ask sound)
 
 -- the first entries of a script keep all journals sound
@@ -145,7 +145,7 @@ sound-run_to n realm world (ends a) sound = sound
 sound-run_to zero realm world (turn cell ask next) sound = sound
 sound-run_to (suc n) realm world (turn cell ask next) sound =
     let turned : Turned = next_turn realm world cell ask in
-    sound-run_to (suc n - entry_count turned.entry) realm (entered realm world cell turned.entry) (next turned.told)
+    sound-run_to (suc n - entry_count turned.entry) realm (entered realm world cell ask turned.entry) (next turned.told)
     (sound-entered realm world cell ask sound)
 
 -- ---- the next tickets
@@ -166,10 +166,10 @@ past-after caller lines (Some entry) =
     let line : Line = record { ticket = past lines; caller = caller; entry = entry } in
     omega (arith, past_from-push 0 lines line)
 
-later-entered : (realm : Realm) (world : World) (cell : CellKey) (entry : Option Entry)
-    → AreLater world.journals (entered realm world cell entry).journals
-later-entered realm world cell entry other =
-    journal-entered realm world cell other entry (λ k ls. past (world.journals k) ≤ past ls)
+later-entered : (realm : Realm) (world : World) (cell : CellKey) (ask : Ask) (entry : Option Entry)
+    → AreLater world.journals (entered realm world cell ask entry).journals
+later-entered realm world cell ask entry other =
+    journal-entered realm world cell other ask entry (λ k ls. past (world.journals k) ≤ past ls)
     (past-after 0 (world.journals cell) entry) (omega arith)
 
 later-trans : (one two three : Journals) → AreLater one two → AreLater two three → AreLater one three
@@ -184,9 +184,9 @@ later-run realm world (turn at ask next) cell =
     let turned : Turned = next_turn realm world at ask in
     omega (
       arith,
-      later-entered realm world at turned.entry cell,
+      later-entered realm world at ask turned.entry cell,
       later-run realm
-          (entered realm world at turned.entry) (next turned.told) cell,
+          (entered realm world at ask turned.entry) (next turned.told) cell,
     )
 
 -- no journal goes back by the first entries of a script
@@ -199,9 +199,9 @@ later-run_to (suc n) realm world (turn at ask next) cell =
     let turned : Turned = next_turn realm world at ask in
     omega (
       arith,
-      later-entered realm world at turned.entry cell,
+      later-entered realm world at ask turned.entry cell,
       later-run_to (suc n - entry_count turned.entry) realm
-          (entered realm world at turned.entry) (next turned.told) cell,
+          (entered realm world at ask turned.entry) (next turned.told) cell,
     )
 
 -- ---- places
@@ -267,14 +267,14 @@ unfolding run
 late-run realm world (ends a) = tt
 late-run realm world (turn cell ask next) =
     let turned : Turned = next_turn realm world cell ask in
-    let after : World = entered realm world cell turned.entry in
+    let after : World = entered realm world cell ask turned.entry in
     let rest = late-run realm after (next turned.told) in
     let p : Place = place_of cell (next_ticket world cell) turned in (
       omega arith,
       none_falls after.journals p (run realm after (next turned.told)).places
-          (later-entered realm world cell turned.entry cell) rest,
+          (later-entered realm world cell ask turned.entry cell) rest,
       late-earlier world.journals after.journals (run realm after (next turned.told)).places
-          (later-entered realm world cell turned.entry) rest,
+          (later-entered realm world cell ask turned.entry) rest,
     )
 
 -- a whole run reaches its places
@@ -285,7 +285,7 @@ reached-run realm world (ends a) = tt
 reached-run realm world (turn cell ask next) =
     let turned : Turned = next_turn realm world cell ask in (
       later-run realm world (turn cell ask next) cell,
-      reached-run realm (entered realm world cell turned.entry)
+      reached-run realm (entered realm world cell ask turned.entry)
           (next turned.told),
     )
 
@@ -304,12 +304,12 @@ reached-run_to n realm world script [] rest is within = tt
 reached-run_to n realm world (ends a) (p ∷ ps) rest is within = absurd (cc)
 reached-run_to zero realm world (turn cell ask next) (p ∷ ps) rest is within =
     let turned : Turned = next_turn realm world cell ask in
-    let after : World = entered realm world cell turned.entry in
+    let after : World = entered realm world cell ask turned.entry in
     let first : place_of cell (next_ticket world cell) turned ≡ p = cc in
     let others : (run realm after (next turned.told)).places ≡ ps ++ rest = cc in
     let changed : (if p.changed then 1 else 0) ≡ entry_count turned.entry =
     changed_by cell (next_ticket world cell) turned p first in
-    let stays : after ≡ world = entered-none realm world cell turned.entry (omega (arith, changed, within)) in
+    let stays : after ≡ world = entered-none realm world cell ask turned.entry (omega (arith, changed, within)) in
     let none : run_to 0 realm after (next turned.told) ≡ world = run_to-none realm after (next turned.told) ∙ stays in
     let more = reached-run_to 0 realm after (next turned.told) ps rest others (omega (arith, within)) in (
       subst (λ (x : Place). x.ticket ≤ past (world.journals x.cell)) first (omega arith),
@@ -317,7 +317,7 @@ reached-run_to zero realm world (turn cell ask next) (p ∷ ps) rest is within =
     )
 reached-run_to (suc n) realm world (turn cell ask next) (p ∷ ps) rest is within =
     let turned : Turned = next_turn realm world cell ask in
-    let after : World = entered realm world cell turned.entry in
+    let after : World = entered realm world cell ask turned.entry in
     let first : place_of cell (next_ticket world cell) turned ≡ p = cc in
     let others : (run realm after (next turned.told)).places ≡ ps ++ rest = cc in
     let changed : (if p.changed then 1 else 0) ≡ entry_count turned.entry =

@@ -6,13 +6,12 @@ use Rattle.ecr_model.specs.declared.registry.journal.CellKey.{CellKey}
 use Rattle.ecr_model.specs.declared.registry.journal.CellKey.TheVariants.{Directory, Repository}
 use Rattle.ecr_model.specs.declared.registry.journal.Entry.{Entry}
 use Rattle.ecr_model.specs.declared.registry.journal.Line.{Line}
-use Rattle.ecr_model.specs.declared.registry.journal.Place.{Place}
 use Rattle.ecr_model.specs.declared.names.Digest.{Digest}
 use Rattle.ecr_model.specs.registry.Directories as directories
 use Rattle.ecr_model.specs.registry.Growth.{Each, Follows}
 use Rattle.ecr_model.specs.registry.Scripts.{Ask, knows, register, site_call, call, Script, ends, turn, then_do, Realm, Turned, frame_of, directory_turn, replies, turn_at, same_cell}
 use Rattle.ecr_model.specs.registry.Steps as steps
-use Rattle.ecr_model.specs.registry.Views.{View, Views, seen_of, past_of, caller_of, journals_of, with_view, Terms, PlacedTurn, places_of, result_of, lines_of, KeepsCaller, ExtendsView, Visit, Visits, Glances, Halts, IsAhead, AreAhead, answer_at, entered_in, own_of, unsealed}
+use Rattle.ecr_model.specs.registry.Views.{View, Views, seen_of, past_of, caller_of, journals_of, with_view, Terms, PlacedTurn, places_of, result_of, lines_of, KeepsCaller, ExtendsView, Visit, Visits, Glances, Halts, IsAhead, AreAhead, answer_at, entered_in, own_of}
 use Rattle.ecr_model.specs.laws.ViewLaws.{WhatWasSeenStays, VisitsGoOn, HaltsGoOn, VisitsHalt, AnswersStay, OwnLinesAreEntered, VisitsThen, AreParted, VisitsPart, HaltsFirst, HaltsThen}
 use Rattle.ecr_model.proofs.lemmas.registry.GrowthLemmas.{Each-append, Each-weaker}
 use Rattle.ecr_model.proofs.lemmas.registry.JournalLemmas.{what_was_stays}
@@ -154,7 +153,7 @@ turn_at-later realm (Repository key) lines news ticket sealed (register name) la
 turn_at-later realm (Repository key) lines news ticket sealed (site_call c) late = refl
 turn_at-later realm (Repository key) lines news ticket sealed (call beside c) late =
     let t : steps.Turn = steps.turn_of ticket sealed beside in
-    ap (λ s. replies t c (steps.step key realm.limits s t c))
+    ap (λ s. replies t c s (steps.step key realm.limits s t c))
     (what_was_stays (steps.after_line key realm.limits) steps.first_state lines news ticket
     (all_of (λ l. ticket ≤ l.ticket) news late))
 
@@ -386,8 +385,3 @@ module _ {A : Type 0} where
 pub places_of-append : (made more : List PlacedTurn) → places_of (made ++ more) ≡ places_of made ++ places_of more
 places_of-append [] more = refl
 places_of-append (m ∷ ms) more = ap (λ ps. m.place ∷ ps) (places_of-append ms more)
-
--- the turns made at places without a completed upload have these places
-pub places_of-unsealed : (places : List Place) → places_of (unsealed places) ≡ places
-places_of-unsealed [] = refl
-places_of-unsealed (p ∷ ps) = ap (λ qs. p ∷ qs) (places_of-unsealed ps)

@@ -1,17 +1,16 @@
 -- The laws of the sessions of one caller among many.
-use Rattle.std.proofs.Common.{◌≡◌, ◌≤◌, ◌<◌, ◌+◌, ◌⊎◌, ℕ, true, false, inl, inr, All, List, [], ◌∷◌, ◌++◌, map, Option, None, Some, is_some, if◌then◌else◌, refl, sym, ap, ◌∙◌, subst, arith, append_assoc, append-nil}
+use Rattle.std.proofs.Common.{◌≡◌, ◌≤◌, ◌<◌, ◌+◌, ◌⊎◌, ℕ, true, false, inl, inr, All, List, [], ◌∷◌, ◌++◌, map, Option, Some, is_some, if◌then◌else◌, refl, sym, ap, ◌∙◌, subst, arith, append_assoc, append-nil}
 use Rattle.std.proofs.lemmas.Bool.{cond_both}
 use Rattle.std.proofs.lemmas.List.Elements.{All-nil, All-cons, All-head, All-tail, All-append}
 use Rattle.ecr_model.specs.declared.registry.journal.CellKey.{CellKey}
 use Rattle.ecr_model.specs.declared.registry.journal.Place.{Place}
-use Rattle.ecr_model.specs.declared.names.Digest.{Digest}
 use Rattle.ecr_model.specs.declared.outcome.Cut.{Cut}
 use Rattle.ecr_model.specs.http.Replies.{failed_reply, interim, is_head}
 use Rattle.ecr_model.specs.http.Stream.{closes}
 use Rattle.ecr_model.specs.laws.CallerLaws.{EntriesStay, OutputIsDecided, PlacesRise, TicketsRise, TurnsStay}
 use Rattle.ecr_model.specs.laws.SessionLaws.{all_places, output_of}
 use Rattle.ecr_model.specs.registry.Scripts.{Script, ends, turn, Realm, Turned, Journals, same_cell}
-use Rattle.ecr_model.specs.registry.Views.{View, Views, past_of, caller_of, journals_of, with_view, Terms, PlacedTurn, places_of, result_of, lines_of, Visit, Glances, Halts, IsAhead, AreAhead, answer_at, entered_in, own_of, unsealed}
+use Rattle.ecr_model.specs.registry.Views.{View, Views, past_of, caller_of, journals_of, with_view, Terms, PlacedTurn, places_of, result_of, lines_of, Visit, Glances, Halts, IsAhead, AreAhead, answer_at, entered_in, own_of}
 use Rattle.ecr_model.specs.requests.Posed.{posed_bytes, posed_of}
 use Rattle.ecr_model.specs.requests.Requests.{Decided}
 use Rattle.ecr_model.specs.sessions.Callers.{AreBetween, AreFirstTurns, AreServedAmong, IsAnsweredAt, IsFailedAt, IsFollowed, IsTurn}
@@ -19,7 +18,8 @@ use Rattle.ecr_model.specs.sessions.Sessions.{Account, Exchange, StandingOf, acc
 use Rattle.ecr_model.proofs.lemmas.http.StreamLemmas.{Reads-unique}
 use Rattle.ecr_model.proofs.lemmas.registry.SoundnessLemmas.{same_cell-same}
 use Rattle.ecr_model.proofs.lemmas.registry.ViewLemmas.{AreAhead-with_view, IsAhead-refl, IsAhead-trans, IsAhead-visit, halts_go_on, own_of-comes, own_of-visit, result_of-later, with_view-same}
-use Rattle.ecr_model.proofs.lemmas.sessions.SessionLemmas.{heads_same, map-none}
+use Rattle.ecr_model.proofs.lemmas.sessions.SealLemmas.{some_same, same_turns-posed}
+use Rattle.ecr_model.proofs.lemmas.sessions.SessionLemmas.{heads_same, posed_bytes-contents}
 
 -- ---- turns over what is seen later
 
@@ -31,7 +31,8 @@ IsTurn-later terms was later cell view ask made visit ahead = record {
   cell_is = visit.cell_is;
   changed_is = visit.changed_is
       ∙ ap (λ (t : Turned). is_some t.entry) (sym (result_of-later terms was later cell view ask made visit ahead));
-  sealed_is = visit.sealed_is;
+  sealed_is = visit.sealed_is
+      ∙ ap (λ (t : Turned). t.seals) (sym (result_of-later terms was later cell view ask made visit ahead));
 }
 
 -- the own lines of a cell stay where no turn was made
@@ -195,56 +196,42 @@ places_rise journals first last (e ∷ es) chain =
 
 -- ---- what decides the output
 
-module _ {A : Type 0} where
-  -- no upload was completed by these turns, so that their places tell all of them
-  turns-unsealed : (realm : Realm) (journals : Journals) (script : Script A) (made : List PlacedTurn)
-      → AreFirstTurns realm journals script made → made ≡ unsealed (places_of made)
-  unfolding AreFirstTurns
-  turns-unsealed realm journals (ends a) [] turns = refl
-  turns-unsealed realm journals (ends a) (m ∷ ms) turns = absurd turns
-  turns-unsealed realm journals (turn cell ask next) [] turns = refl
-  turns-unsealed realm journals (turn cell ask next) (m ∷ ms) turns =
-      let rest : ms ≡ unsealed (places_of ms) =
-      turns-unsealed realm journals (next (result_of realm cell (journals cell) ask m).told) ms turns.1 in
-      ap (λ (s : Option Digest). record { place = m.place; sealed = s } ∷ ms) turns.0.sealed_is
-      ∙ ap (λ l. record { place = m.place; sealed = None } ∷ l) rest
-
 -- an exchange that failed isn't one that was answered
 not_both : (d e : Exchange) → d.cut ≡ e.cut → d.cut.failed ≡ false → e.cut.failed ≡ true → ⊥
 not_both d e cut served failed = absurd (
     let no : false ≡ true = sym served ∙ ap (λ (c : Cut). c.failed) cut ∙ failed in cc
     )
 
--- two answers that are there are one
-pub some_same : {A : Type 0} (a b : A) → Some a ≡ Some b → a ≡ b
-some_same a b is = cc
-
 -- the same request at the same moment, places and cut was answered by the same bytes
 answered-same : (realm other : Realm) (journals : Journals) (d e : Exchange) (made others : List PlacedTurn)
-    → realm ≡ other → d.request ≡ e.request → d.moment ≡ e.moment → d.places ≡ e.places
+    → realm ≡ other → d.request ≡ e.request → d.moment ≡ e.moment → d.places ≡ e.places → d.cut ≡ e.cut
     → AreFirstTurns realm journals (script_of realm d.moment d.request) made
     → AreFirstTurns other journals (script_of other e.moment e.request) others
     → IsAnsweredAt realm journals d made → IsAnsweredAt other journals e others → d.bytes ≡ e.bytes
-answered-same realm other journals d e made others r q m p one two a b =
+answered-same realm other journals d e made others r q m p c one two a b =
+    let script : Script Decided = script_of other e.moment e.request in
+    let same : script_of realm d.moment d.request ≡ script =
+    ap (λ x. script_of x d.moment d.request) r ∙ ap (λ x. script_of other x d.request) m
+    ∙ ap (λ x. script_of other e.moment x) q in
+    let first : AreFirstTurns other journals script made =
+    subst (λ (s : Script Decided). AreFirstTurns other journals s made) same
+    (subst (λ (x : Realm). AreFirstTurns x journals (script_of realm d.moment d.request) made) r one) in
+    let told : answer_at other journals script made ≡ Some a.answer =
+    sym (ap (λ x. answer_at x journals (script_of realm d.moment d.request) made) r
+    ∙ ap (λ s. answer_at other journals s made) same) ∙ a.answered in
+    let sealed : a.answer.sealed ≡ b.answer.sealed =
+    sym a.sealed ∙ ap (λ (x : Cut). x.sealed) c ∙ b.sealed in
     let turns : made ≡ others =
-    turns-unsealed realm journals (script_of realm d.moment d.request) made one
-    ∙ ap unsealed (sym a.placed ∙ p ∙ b.placed)
-    ∙ sym (turns-unsealed other journals (script_of other e.moment e.request) others two) in
+    same_turns-posed (posed_of other.served e.request) e.moment other journals made others a.answer b.answer first two
+    (sym a.placed ∙ p ∙ b.placed) told b.answered sealed in
     let answer : a.answer ≡ b.answer =
     some_same a.answer b.answer
-    (sym a.answered
-    ∙ ap (λ x. answer_at x journals (script_of x d.moment d.request) made) r
-    ∙ ap (λ x. answer_at other journals (script_of other x d.request) made) m
-    ∙ ap (λ x. answer_at other journals (script_of other e.moment x) made) q
-    ∙ ap (λ x. answer_at other journals (script_of other e.moment e.request) x) turns
-    ∙ b.answered) in
-    let contents : d.contents ≡ e.contents =
-    map-none _ d.contents a.carries ∙ sym (map-none _ e.contents b.carries) in
+    (sym told ∙ ap (λ x. answer_at other journals script x) turns ∙ b.answered) in
     a.bytes
     ∙ ap (λ (x : Realm). posed_bytes (posed_of x.served d.request) (closes d.request) a.answer.reply d.contents) r
     ∙ ap (λ x. posed_bytes (posed_of other.served x) (closes x) a.answer.reply d.contents) q
     ∙ ap (λ (x : Decided). posed_bytes (posed_of other.served e.request) (closes e.request) x.reply d.contents) answer
-    ∙ ap (λ x. posed_bytes (posed_of other.served e.request) (closes e.request) b.answer.reply x) contents
+    ∙ posed_bytes-contents (posed_of other.served e.request) (closes e.request) b.answer.reply d.contents e.contents
     ∙ sym b.bytes
 
 bytes-same : (realm other : Realm) (journals : Journals) (d e : Exchange) (made others : List PlacedTurn)
@@ -254,7 +241,7 @@ bytes-same : (realm other : Realm) (journals : Journals) (d e : Exchange) (made 
     → (IsAnsweredAt realm journals d made ⊎ IsFailedAt d made)
     → (IsAnsweredAt other journals e others ⊎ IsFailedAt e others) → d.bytes ≡ e.bytes
 bytes-same realm other journals d e made others r q m p c one two (inl a) (inl b) =
-    answered-same realm other journals d e made others r q m p one two a b
+    answered-same realm other journals d e made others r q m p c one two a b
 bytes-same realm other journals d e made others r q m p c one two (inl a) (inr f) =
     absurd (not_both d e c a.served f.failed)
 bytes-same realm other journals d e made others r q m p c one two (inr f) (inl b) =

@@ -5,11 +5,13 @@ use Rattle.std.proofs.KnownBytes.{Appends-nil, Appends-trans}
 use Rattle.std.proofs.lemmas.Bool.{cond-true, cond-false}
 use Rattle.ecr_model.specs.declared.http.Request.{Request}
 use Rattle.ecr_model.specs.declared.outcome.Cut.{Cut}
-use Rattle.ecr_model.specs.registry.Content.{content_digest}
 use Rattle.ecr_model.specs.registry.Contents.{named_by}
 use Rattle.ecr_model.specs.http.Replies.{failed_reply, is_head}
 use Rattle.ecr_model.specs.http.Stream.{closes}
-use Rattle.ecr_model.specs.requests.Posed.{posed_of, posed_bytes}
+use Rattle.ecr_model.specs.declared.requests.reply.Reply.{Reply}
+use Rattle.ecr_model.specs.requests.Actions.{asks, refuses}
+use Rattle.ecr_model.specs.requests.Posed.{Posed, api, unrouted, posed_of, posed_bytes}
+use Rattle.ecr_model.specs.requests.Rendered.{json}
 use Rattle.ecr_model.specs.http.Replies.{interim}
 use Rattle.ecr_model.specs.registry.Scripts.{Realm, World, run_to}
 use Rattle.ecr_model.specs.sessions.Sessions.{Exchange, Standing, Chain, AreServed, IsTime, is_waiting, written, left_by, named_to, outcome_of, script_of, answer_to, sent_to, requests_of}
@@ -79,31 +81,40 @@ a_fixed_moment_is_each first last (e ∷ es) moment served fixed =
 
 -- ---- what the requests, the moments and the cuts decide
 
+-- the bytes of a reply don't show its content
+pub posed_bytes-contents : (p : Posed) (close : Bool) (reply : Reply) (one other : List (List ℕ))
+    → posed_bytes p close reply one ≡ posed_bytes p close reply other
+unfolding posed_bytes json
+posed_bytes-contents (api (asks asked)) close reply one other = refl
+posed_bytes-contents (api (refuses refusal)) close reply one other = refl
+posed_bytes-contents unrouted close reply one other = refl
+
+written-contents : (realm : Realm) (world : World) (moment : ℕ) (cut : Cut) (request : Request)
+    (one other : List (List ℕ))
+    → written realm world moment cut request one ≡ written realm world moment cut request other
+unfolding written
+written-contents realm world moment cut request one other =
+    ap (λ bytes. if cut.failed then failed_reply (is_head request) (closes request) else bytes)
+    (posed_bytes-contents (posed_of realm.served request) (closes request)
+    (outcome_of realm world moment request).answer.reply one other)
+
 -- the reply to a request, and what it leaves, by what decides them
 written-same : (realm other : Realm) (world another : World) (d e : Exchange)
     → realm ≡ other → world ≡ another → d.moment ≡ e.moment → d.cut ≡ e.cut → d.request ≡ e.request
-    → d.contents ≡ e.contents
     → written realm world d.moment d.cut d.request d.contents
     ≡ written other another e.moment e.cut e.request e.contents
-written-same realm other world another d e r w m c q s =
+written-same realm other world another d e r w m c q =
     ap (λ x. written x world d.moment d.cut d.request d.contents) r
     ∙ ap (λ x. written other x d.moment d.cut d.request d.contents) w
     ∙ ap (λ x. written other another x d.cut d.request d.contents) m
     ∙ ap (λ x. written other another e.moment x d.request d.contents) c
     ∙ ap (λ x. written other another e.moment e.cut x d.contents) q
-    ∙ ap (λ x. written other another e.moment e.cut e.request x) s
+    ∙ written-contents other another e.moment e.cut e.request d.contents e.contents
 
 -- a list under a map that is empty is empty
 pub map-none : {A B : Type 0} (f : A → B) (xs : List A) → map f xs ≡ [] → xs ≡ []
 map-none f [] none = refl
 map-none f (x ∷ xs) none = absurd (cc)
-
--- no reply carries content yet
-pub carries_none : (failed : Bool) (contents : List (List ℕ))
-    → map content_digest contents ≡ (if failed then [] else [])
-    → contents ≡ []
-carries_none true contents is = map-none content_digest contents is
-carries_none false contents is = map-none content_digest contents is
 
 left_by-same : (realm other : Realm) (world another : World) (d e : Exchange)
     → realm ≡ other → world ≡ another → d.moment ≡ e.moment → d.cut ≡ e.cut → d.request ≡ e.request
@@ -133,10 +144,8 @@ AreServed-same s t last other (e ∷ es) (f ∷ fs) realm world one two q m c =
     let qs = heads_same e.request f.request (requests_of es) (requests_of fs) q in
     let ms = heads_same e.moment f.moment (map (λ d. d.moment) es) (map (λ d. d.moment) fs) m in
     let cs = heads_same e.cut f.cut (map (λ d. d.cut) es) (map (λ d. d.cut) fs) c in
-    let contents : e.contents ≡ f.contents =
-    carries_none e.cut.failed e.contents one.1.carries ∙ sym (carries_none f.cut.failed f.contents two.1.carries) in
     let bytes : e.bytes ≡ f.bytes =
-    one.1.bytes ∙ written-same s.realm t.realm s.world t.world e f realm world ms.0 cs.0 qs.0 contents
+    one.1.bytes ∙ written-same s.realm t.realm s.world t.world e f realm world ms.0 cs.0 qs.0
     ∙ sym two.1.bytes in
     let next_realm : one.0.realm ≡ two.0.realm = one.1.realm_stays ∙ realm ∙ sym two.1.realm_stays in
     let next_world : one.0.world ≡ two.0.world =

@@ -16,14 +16,14 @@ returns-in_ok-call-in-Cell-clause-ran g c =
     IfOk-weaker c.call_at.result _ _
     (λ r w. RanWith-cell _ _ _ c.in-Cell.key c.in-Cell.call c.in_ok-call-in-Cell.call _ _ _
     (record { reply = r.reply; sealed = r.sealed }) _ _ (ap meaning c.in-Cell.is) c.in_ok-call-in-Cell.ensures
-    (ap given c.load_of.ensures) w) c.call_at.ensures.ran
+    (ap given c.in_ok-load-in-Cell.ensures.same) w) c.call_at.ensures.ran
 
 pub returns-in_ok-call-in-Cell-clause-stopped : goal.returns-in_ok-call-in-Cell-clause-stopped
 returns-in_ok-call-in-Cell-clause-stopped g c =
     on_err_weaker c.call_at.result
     (λ w. StoppedWith-cell _ _ _ c.in-Cell.key c.in-Cell.call c.in_ok-call-in-Cell.call _ _ _ _ _
     (ap meaning c.in-Cell.is) c.in_ok-call-in-Cell.ensures
-    (ap given c.load_of.ensures) w) c.call_at.ensures.stopped
+    (ap given c.in_ok-load-in-Cell.ensures.same) w) c.call_at.ensures.stopped
 
 pub returns-in_ok-reply-in-Site-clause-ran : goal.returns-in_ok-reply-in-Site-clause-ran
 returns-in_ok-reply-in-Site-clause-ran g c =
@@ -44,3 +44,6 @@ returns-in_ok-reply-in-Many-clause-ran g c =
 
 pub returns-in_err-call-in-Cell-clause-stopped : goal.returns-in_err-call-in-Cell-clause-stopped
 returns-in_err-call-in-Cell-clause-stopped g c = OnErr-always _ _ (StoppedWith-nothing _ _ _ _ refl)
+
+pub returns-in_err-load-in-Cell-clause-stopped : goal.returns-in_err-load-in-Cell-clause-stopped
+returns-in_err-load-in-Cell-clause-stopped g c = OnErr-always _ _ (StoppedWith-nothing _ _ _ _ refl)
